@@ -1,0 +1,4 @@
+pub mod Device
+pub mod Script
+pub mod Log
+pub mod Recorder

@@ -1,0 +1,16 @@
+//! What a device is, and how it is reached: the backend interface, a scripted device and a recorder.
+
+mod access;
+mod access_log;
+mod backend;
+mod recorder;
+mod script;
+
+pub use access::Access;
+pub use access::Kind;
+pub use access_log::AccessLog;
+pub use backend::Backend;
+pub use recorder::Recorder;
+pub use recorder::RecorderBackend;
+pub use script::Script;
+pub use script::ScriptBackend;

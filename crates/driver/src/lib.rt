@@ -1,0 +1,9 @@
+//! The driver for 16550 devices.
+
+mod budget;
+mod setup;
+mod status;
+mod uart;
+
+pub use budget::Waited;
+pub use uart::Uart16550;

@@ -1,0 +1,29 @@
+-- Register bits, by masks: the names are the datasheet's.
+use Prim.Native.Nat.{ℕ}
+use mathlib.Core.Bool.{Bool}
+use lib.Bits.{bitAnd}
+use lib.Dec.{eqb}
+
+-- all bits of the mask m are set in the byte v
+unfoldable pub contains : ℕ → ℕ → Bool
+contains v m = eqb (bitAnd v m) m
+
+-- the line status: a character waits
+abbrev pub data-ready : ℕ
+data-ready = 0x01
+
+-- the four errors that a read of the line status clears: overrun, parity, framing, break
+abbrev pub line-errors : ℕ
+line-errors = 0x1E
+
+-- nothing waits to be sent
+abbrev pub transmitter-empty : ℕ
+transmitter-empty = 0x40
+
+-- the interrupt status: both bits are set while the FIFOs are on
+abbrev pub fifos-on : ℕ
+fifos-on = 0xC0
+
+-- the line control: the divisor's bytes are reached
+abbrev pub divisor-access : ℕ
+divisor-access = 0x80

@@ -1,0 +1,7 @@
+pub mod Offsets
+pub mod Flags
+pub mod Fifo
+pub mod Frame
+pub mod Config
+pub mod Refusal
+pub mod Divisor

@@ -1,0 +1,41 @@
+-- The closed list of refusals: the number of the question that was answered no, and the values that go with it.
+use Prim.Native.Nat.{ℕ}
+use mathlib.Core.List.{List, [], _∷_}
+use Rattle.std.specs.declared.option.Option.{Option}
+use Rattle.registers.specs.declared.error.InvalidDivisorError.{InvalidDivisorError}
+use Rattle.registers.specs.declared.error.InvalidDivisorError.the-variants.{ZeroFrequency, ZeroBaudRate, InvalidPrescaler, NonInteger, OutOfRange}
+use Rattle.registers.specs.declared.error.Wait.{Wait}
+use Rattle.registers.specs.declared.error.BudgetError.{BudgetError}
+use Rattle.registers.specs.declared.error.InitError.{InitError}
+use Rattle.registers.specs.declared.error.InitError.the-variants.{DeviceNotPresent, InvalidBaudRate, BudgetUsedUp}
+
+-- a value that a refusal carries
+pub data Value : Type 0 where
+  amount : ℕ → Value
+  optional : Option ℕ → Value
+  during : Wait → Value
+
+pub record Refusal : Type 0 where
+  pub number : ℕ
+  pub values : List Value
+
+abbrev pub refusal : ℕ → List Value → Refusal
+refusal n vs = record { number = n; values = vs }
+
+-- why there is no divisor
+abbrev pub divisor-refusal : InvalidDivisorError → Refusal
+divisor-refusal ZeroFrequency = refusal 3 []
+divisor-refusal ZeroBaudRate = refusal 4 []
+divisor-refusal InvalidPrescaler = refusal 5 []
+divisor-refusal (NonInteger e) = refusal 6 (amount (e .frequency) ∷ amount (e .«baud_rate») ∷ optional (e .«prescaler_division_factor») ∷ [])
+divisor-refusal (OutOfRange q) = refusal 7 (amount q ∷ [])
+
+-- why a call gave up waiting
+abbrev pub budget-refusal : BudgetError → Refusal
+budget-refusal e = refusal 9 (during (e .wait) ∷ [])
+
+-- why a device was not initialised
+abbrev pub init-refusal : InitError → Refusal
+init-refusal DeviceNotPresent = refusal 8 []
+init-refusal (InvalidBaudRate e) = divisor-refusal e
+init-refusal (BudgetUsedUp e) = budget-refusal e

@@ -1,0 +1,76 @@
+//! The divisor formula: 16 × (prescaler + 1) × rate × divisor = frequency.
+
+ghost use Prim.Native.Nat.{ℕ, _+_, _*_, _<_, _≤_};
+ghost use Rattle.registers.specs.Divisor.{Divisor·of, No·divisor, No·quotient, prescaled};
+ghost use Rattle.registers.specs.Refusal.{divisor-refusal};
+ghost use Rattle.std.specs.declared.result.Result.the-variants.{Ok, Err};
+ghost use Rattle.std.specs.declared.option.Option.the-variants.{Some, None};
+ghost use mathlib.Core.Path.{_≡_};
+use crate::error::InvalidDivisorError;
+use crate::error::NonIntegerDivisorError;
+
+/// The usual clock of a 16550, 1.8432 MHz.
+pub const CLK_FREQUENCY_HZ: u32 = 1_843_200;
+
+/// The prescaler as the formula has it: 0 where there is none.
+fn prescale(prescaler_division_factor: Option<u32>) -> u32
+    ensures { λ r. ⌜ r ≡ prescaled «prescaler_division_factor» ⌝ }
+{
+    match prescaler_division_factor {
+        None => 0,
+        Some(p) => p,
+    }
+}
+
+/// The number n with 16 × (prescaler + 1) × factor × n = frequency, where there is one.
+fn quotient(frequency: u32, factor: u32, prescaler: u32) -> Option<u32>
+    requires { ⌜ prescaler ≤ 15 ⌝ ∗ ⌜ 0 < factor ⌝ }
+    ensures { λ r. ⌜ elim r [
+      | Some n ↦ 16 * (prescaler + 1) * factor * n ≡ frequency
+      | None ↦ No·quotient frequency factor prescaler
+    ] ⌝ }
+{
+    let unit = 16 * (u64::from(prescaler) + 1) * u64::from(factor);
+    let n = u64::from(frequency) / unit;
+    if n * unit == u64::from(frequency) {
+        Some(n as u32)
+    } else {
+        None
+    }
+}
+
+/// The divisor for a rate: the d from 1 to 65,535 with 16 × (p + 1) × rate × d = frequency.
+///
+/// Refuses with 3, 4, 5, 6 or 7, the first that applies.
+pub fn calc_divisor(
+    frequency: u32,
+    baud_rate: u32,
+    prescaler_division_factor: Option<u32>,
+) -> Result<u16, InvalidDivisorError>
+    ensures { λ r. ⌜ elim r [
+      | Ok d ↦ Divisor·of frequency «baud_rate» «prescaler_division_factor» d
+      | Err e ↦ No·divisor frequency «baud_rate» «prescaler_division_factor» (divisor-refusal e)
+    ] ⌝ }
+{
+    if frequency == 0 {
+        return Err(InvalidDivisorError::ZeroFrequency);
+    }
+    if baud_rate == 0 {
+        return Err(InvalidDivisorError::ZeroBaudRate);
+    }
+    let prescaler = prescale(prescaler_division_factor);
+    if prescaler > 15 {
+        return Err(InvalidDivisorError::InvalidPrescaler);
+    }
+    let Some(divisor) = quotient(frequency, baud_rate, prescaler) else {
+        return Err(InvalidDivisorError::NonInteger(NonIntegerDivisorError {
+            frequency,
+            baud_rate,
+            prescaler_division_factor,
+        }));
+    };
+    if divisor > 65_535 {
+        return Err(InvalidDivisorError::OutOfRange { divisor });
+    }
+    Ok(divisor as u16)
+}

@@ -1,0 +1,86 @@
+//! Refusals. Each case has a number and values, which `specs/Refusal.antt` gives.
+
+ghost use Rattle.registers.specs.declared.error.InitError.the-variants.{InvalidBaudRate, BudgetUsedUp};
+ghost use mathlib.Core.Path.{_≡_};
+
+/// No divisor is an integer for these values.
+#[derive(Clone, Copy, Debug, PartialEq, Eq)]
+pub struct NonIntegerDivisorError {
+    /// The clock frequency.
+    pub frequency: u32,
+    /// The wanted rate.
+    pub baud_rate: u32,
+    /// The prescaler, if there is one.
+    pub prescaler_division_factor: Option<u32>,
+}
+
+/// Why a frequency and a rate have no divisor.
+#[derive(Clone, Copy, Debug, PartialEq, Eq)]
+pub enum InvalidDivisorError {
+    /// The frequency is 0.
+    ZeroFrequency,
+    /// The rate is 0.
+    ZeroBaudRate,
+    /// The prescaler is above 15.
+    InvalidPrescaler,
+    /// The divisor would not be an integer.
+    NonInteger(NonIntegerDivisorError),
+    /// The divisor would not fit the 16-bit divisor latch.
+    OutOfRange {
+        /// The divisor that does not fit.
+        divisor: u32,
+    },
+}
+
+/// What a call was waiting for.
+#[derive(Clone, Copy, Debug, PartialEq, Eq)]
+pub enum Wait {
+    /// The transmitter becoming empty.
+    Transmitter,
+    /// The receiver becoming empty before the loopback test.
+    Drain,
+    /// The loopback test's byte coming back.
+    TestByte,
+    /// The loopback test's message being taken.
+    TestMessageSent,
+    /// The loopback test's message coming back.
+    TestMessageReceived,
+    /// A character to receive.
+    Receive,
+    /// Room to send.
+    Send,
+}
+
+/// A call's budget of fruitless polls is used up.
+#[derive(Clone, Copy, Debug, PartialEq, Eq)]
+pub struct BudgetError {
+    /// The wait that the last poll belonged to.
+    pub wait: Wait,
+}
+
+/// Why a device was not initialised.
+#[derive(Clone, Copy, Debug, PartialEq, Eq)]
+pub enum InitError {
+    /// The scratch register did not keep a pattern.
+    DeviceNotPresent,
+    /// The configured rate has no divisor.
+    InvalidBaudRate(InvalidDivisorError),
+    /// The budget was used up.
+    BudgetUsedUp(BudgetError),
+}
+
+pub impl From<InvalidDivisorError> for InitError as InitErrorFromDivisor {
+    ghost converts = { λ e r. r ≡ InvalidBaudRate e };
+
+    fn from(e: InvalidDivisorError) -> InitError {
+        InitError::InvalidBaudRate(e)
+    }
+}
+
+pub impl From<BudgetError> for InitError as InitErrorFromBudget {
+    ghost converts = { λ e r. r ≡ BudgetUsedUp e };
+
+    fn from(e: BudgetError) -> InitError {
+        InitError::BudgetUsedUp(e)
+    }
+}
