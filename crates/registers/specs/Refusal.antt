@@ -8,6 +8,15 @@ use Rattle.registers.specs.declared.error.Wait.{Wait}
 use Rattle.registers.specs.declared.error.BudgetError.{BudgetError}
 use Rattle.registers.specs.declared.error.InitError.{InitError}
 use Rattle.registers.specs.declared.error.InitError.the-variants.{DeviceNotPresent, InvalidBaudRate, BudgetUsedUp}
+use Rattle.registers.specs.declared.error.InvalidAddressError.{InvalidAddressError}
+use Rattle.registers.specs.declared.error.InvalidAddressError.the-variants.{InvalidBaseAddress, InvalidStride}
+use Rattle.registers.specs.declared.error.ByteReceiveError.{ByteReceiveError}
+use Rattle.registers.specs.declared.error.ByteSendError.{ByteSendError}
+use Rattle.registers.specs.declared.error.ByteSendError.the-variants.{NoCapacity, RemoteNotClearToSend}
+use Rattle.registers.specs.declared.error.RemoteReadyToReceiveError.{RemoteReadyToReceiveError}
+use Rattle.registers.specs.declared.error.RemoteReadyToReceiveError.the-variants.{NoRemoteConnectedNoDSR, RemoteNotClearToSend as NoCts}
+use Rattle.registers.specs.declared.error.LoopbackError.{LoopbackError}
+use Rattle.registers.specs.declared.error.LoopbackError.the-variants.{SendError, UnexpectedLoopbackByte, UnexpectedLoopbackMsg, BudgetUsedUp as UsedUp}
 
 -- a value that a refusal carries
 pub data Value : Type 0 where
@@ -39,3 +48,29 @@ abbrev pub init-refusal : InitError → Refusal
 init-refusal DeviceNotPresent = refusal 8 []
 init-refusal (InvalidBaudRate e) = divisor-refusal e
 init-refusal (BudgetUsedUp e) = budget-refusal e
+
+-- why registers cannot stand at an address
+abbrev pub address-refusal : InvalidAddressError → Refusal
+address-refusal (InvalidStride s) = refusal 1 (amount s ∷ [])
+address-refusal (InvalidBaseAddress a) = refusal 2 (amount a ∷ [])
+
+-- why nothing was received
+abbrev pub receive-refusal : ByteReceiveError → Refusal
+receive-refusal e = refusal 10 []
+
+-- why nothing can be sent
+abbrev pub send-refusal : ByteSendError → Refusal
+send-refusal NoCapacity = refusal 11 []
+send-refusal RemoteNotClearToSend = refusal 12 []
+
+-- why the remote is not ready
+abbrev pub remote-refusal : RemoteReadyToReceiveError → Refusal
+remote-refusal NoRemoteConnectedNoDSR = refusal 13 []
+remote-refusal NoCts = refusal 14 []
+
+-- why the loopback test failed: a send fault goes by its own number, a wrong byte is carried whole
+abbrev pub loopback-refusal : LoopbackError → Refusal
+loopback-refusal (SendError e) = refusal 15 (amount (send-refusal e .number) ∷ [])
+loopback-refusal (UnexpectedLoopbackByte actual) = refusal 16 (amount actual ∷ [])
+loopback-refusal UnexpectedLoopbackMsg = refusal 17 []
+loopback-refusal (UsedUp e) = budget-refusal e

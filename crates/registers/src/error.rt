@@ -1,6 +1,7 @@
 //! Refusals. Each case has a number and values, which `specs/Refusal.antt` gives.
 
 ghost use Rattle.registers.specs.declared.error.InitError.the-variants.{InvalidBaudRate, BudgetUsedUp};
+ghost use Rattle.registers.specs.declared.error.LoopbackError.the-variants.{SendError, BudgetUsedUp as UsedUp};
 ghost use mathlib.Core.Path.{_≡_};
 
 /// No divisor is an integer for these values.
@@ -82,5 +83,68 @@ pub impl From<BudgetError> for InitError as InitErrorFromBudget {
 
     fn from(e: BudgetError) -> InitError {
         InitError::BudgetUsedUp(e)
+    }
+}
+
+/// Why registers cannot stand at an address.
+#[derive(Clone, Copy, Debug, PartialEq, Eq)]
+pub enum InvalidAddressError {
+    /// The last register would lie past the end of the address space.
+    InvalidBaseAddress(u64),
+    /// The distance between registers is not a power of two.
+    InvalidStride(u8),
+}
+
+/// No character waits.
+#[derive(Clone, Copy, Debug, PartialEq, Eq)]
+pub struct ByteReceiveError;
+
+/// Why nothing can be sent.
+#[derive(Clone, Copy, Debug, PartialEq, Eq)]
+pub enum ByteSendError {
+    /// The transmitter holds characters.
+    NoCapacity,
+    /// The remote does not show clear-to-send.
+    RemoteNotClearToSend,
+}
+
+/// Why the remote is not ready to receive.
+#[derive(Clone, Copy, Debug, PartialEq, Eq)]
+pub enum RemoteReadyToReceiveError {
+    /// The remote does not show data-set-ready.
+    NoRemoteConnectedNoDSR,
+    /// The remote does not show clear-to-send.
+    RemoteNotClearToSend,
+}
+
+/// Why the loopback test failed.
+#[derive(Clone, Copy, Debug, PartialEq, Eq)]
+pub enum LoopbackError {
+    /// The test byte was not taken.
+    SendError(ByteSendError),
+    /// Another byte came back.
+    UnexpectedLoopbackByte {
+        /// The byte that was read.
+        actual: u8,
+    },
+    /// Another message came back: the caller's place holds it.
+    UnexpectedLoopbackMsg,
+    /// The budget was used up.
+    BudgetUsedUp(BudgetError),
+}
+
+pub impl From<ByteSendError> for LoopbackError as LoopbackErrorFromSend {
+    ghost converts = { λ e r. r ≡ SendError e };
+
+    fn from(e: ByteSendError) -> LoopbackError {
+        LoopbackError::SendError(e)
+    }
+}
+
+pub impl From<BudgetError> for LoopbackError as LoopbackErrorFromBudget {
+    ghost converts = { λ e r. r ≡ UsedUp e };
+
+    fn from(e: BudgetError) -> LoopbackError {
+        LoopbackError::BudgetUsedUp(e)
     }
 }
