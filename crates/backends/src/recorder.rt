@@ -6,6 +6,7 @@ use crate::access::Access;
 use crate::access::Kind;
 use crate::access_log::AccessLog;
 use crate::backend::Backend;
+use crate::chip::Chip;
 
 /// A backend that means what the one it holds means, and records the accesses.
 #[derive(Drop)]
@@ -61,4 +62,8 @@ pub impl<B: Backend> Backend for Recorder<B> as RecorderBackend {
             });
         }
     }
+}
+
+pub impl<C: Chip> Chip for Recorder<C> as RecorderChip {
+    ghost meaning = { λ s. C·Chip .meaning (s .inner) };
 }
