@@ -62,7 +62,7 @@ module _ {S : Type 0} (d : Device S) where
             p .0 ++ o .0 ++ polls (b .polled),
             subst (λ m. Initialised c n k (Some (refusal 9 (during Transmitter ∷ []))) m k₃ (p .0 ++ o .0 ++ polls (b .polled))) (sym l′)
                 (subst (λ m. Initialised c n k (Some (refusal 9 (during Transmitter ∷ []))) (length (b .polled)) m (p .0 ++ o .0 ++ polls (b .polled)))
-                (sym (b .keeps ∙ ap (λ m. noting m (b .polled)) now-kept))
+                (sym (b .keeps ∙ ap (λ m. noting m (b .polled) []) now-kept))
                 (given-up dv h (k₂ .fifo) (p .0) (o .0) (p .1) open-c (b .polled) (b .busy) l)),
             runs-append d (p .0 ++ o .0) (polls (b .polled)) s u w start (b .ran),
           )
@@ -75,7 +75,7 @@ module _ {S : Type 0} (d : Device S) where
           let l′ : total ≡ length (b .polled) = omega (arith, b .count) in
           let vs = b .polled in
           let e₆ : k₄ ≡ with-saved (with-fifo (with-config k c) (k₂ .fifo)) 0 0 =
-          e₄ ∙ ap (λ m. with-saved m 0 0) (b .keeps ∙ ap (λ m. noting m (vs ++ (b .last ∷ []))) now-kept) in
+          e₄ ∙ ap (λ m. with-saved m 0 0) (b .keeps ∙ ap (λ m. noting m (vs ++ (b .last ∷ [])) []) now-kept) in
           let e₇ : ints ≡ c .interrupts = e₅ ∙ ap (λ m. m .config .interrupts) e₆ in
           let zs = p .0 ++ o .0 ++ (polls vs ++ (rd 5 (b .last) ∷ [])) ++ cl .0 ++ (wr 1 (c .interrupts) ∷ []) in (
             zs,

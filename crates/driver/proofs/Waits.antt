@@ -7,29 +7,30 @@ use mathlib.Core.Path.{_≡_, refl, sym, ap, _∙_, subst}
 use lib.Bits.{bitAnd, bitOr}
 use lib.ListN.{length}
 use Rattle.std.proofs.shelf.Lists.{length-push}
-use Rattle.registers.specs.Flags.{contains}
+use Rattle.registers.specs.Flags.{contains, line-errors}
 use Rattle.backends.specs.Device.{Device, Runs, rd}
 use Rattle.driver.specs.Kept.{Kept, with-saved}
-use Rattle.driver.specs.Traces.{polls, saved, noting, None·shows, Stayed·busy, Seen·empty}
+use Rattle.driver.specs.Traces.{polls, joined, noting, None·shows, Stayed·busy, Seen·empty}
 use Rattle.driver.proofs.Runs.{runs-append}
 
 pub polls-push : (vs : List ℕ) (v : ℕ) → polls (vs ++ (v ∷ [])) ≡ polls vs ++ (rd 5 v ∷ [])
 polls-push [] v = refl
 polls-push (w ∷ vs) v = ap (λ l. rd 5 w ∷ l) (polls-push vs v)
 
-pub saved-push : (s : ℕ) (vs : List ℕ) (v : ℕ) → saved s (vs ++ (v ∷ [])) ≡ bitOr (saved s vs) (bitAnd v 0x1E)
-saved-push s [] v = refl
-saved-push s (w ∷ vs) v = saved-push (bitOr s (bitAnd w 0x1E)) vs v
+pub joined-push : (m s : ℕ) (vs : List ℕ) (v : ℕ) → joined m s (vs ++ (v ∷ [])) ≡ bitOr (joined m s vs) (bitAnd v m)
+joined-push m s [] v = refl
+joined-push m s (w ∷ vs) v = joined-push m (bitOr s (bitAnd w m)) vs v
 
 pub none-push : (m : ℕ) (vs : List ℕ) (v : ℕ) → None·shows m vs → contains v m ≡ false → None·shows m (vs ++ (v ∷ []))
 none-push m [] v h e = (e, tt)
 none-push m (w ∷ vs) v h e = (h .0, none-push m vs v (h .1) e)
 
-noting-push : (k l l′ : Kept) (vs : List ℕ) (v : ℕ) → l ≡ noting k vs → l′ ≡ noting l (v ∷ []) → l′ ≡ noting k (vs ++ (v ∷ []))
-noting-push k l l′ vs v e f = f ∙ ap (λ n. noting n (v ∷ [])) e ∙ ap (λ n. with-saved k n (k .msr)) (sym (saved-push (k .lsr) vs v))
+noting-push : (k l l′ : Kept) (vs : List ℕ) (v : ℕ) → l ≡ noting k vs [] → l′ ≡ noting l (v ∷ []) [] → l′ ≡ noting k (vs ++ (v ∷ [])) []
+noting-push k l l′ vs v e f =
+    f ∙ ap (λ n. noting n (v ∷ []) []) e ∙ ap (λ n. with-saved k n (k .msr)) (sym (joined-push line-errors (k .lsr) vs v))
 
 module _ {S : Type 0} (d : Device S) (s t u : S) (k l l′ : Kept) (a b v : ℕ) (h : Stayed·busy d s t k l a b)
-    (ran : Runs d (rd 5 v ∷ []) t u) (note : l′ ≡ noting l (v ∷ [])) where
+    (ran : Runs d (rd 5 v ∷ []) t u) (note : l′ ≡ noting l (v ∷ []) []) where
   longer : Runs d (polls (h .polled) ++ (rd 5 v ∷ [])) s u
   longer = runs-append d (polls (h .polled)) (rd 5 v ∷ []) s t u (h .ran) ran
 

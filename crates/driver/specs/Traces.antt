@@ -13,7 +13,7 @@ use Rattle.registers.specs.declared.fcr.FifoTriggerLevel.{FifoTriggerLevel}
 use Rattle.registers.specs.Config.{rate}
 use Rattle.registers.specs.Divisor.{Divisor·of, No·divisor}
 use Rattle.registers.specs.Fifo.{fifo-control}
-use Rattle.registers.specs.Flags.{contains, data-ready, line-errors, transmitter-empty, fifos-on, divisor-access}
+use Rattle.registers.specs.Flags.{contains, data-ready, line-errors, line-changes, transmitter-empty, fifos-on, divisor-access}
 use Rattle.registers.specs.Offsets.{at-data, at-ier, at-isr, at-fcr, at-lcr, at-mcr, at-lsr, at-msr, at-spr, at-dll, at-dlm}
 use Rattle.registers.specs.Frame.{frame}
 use Rattle.registers.specs.Refusal.{Refusal, refusal, during}
@@ -56,19 +56,19 @@ abbrev pub polls : List ℕ → List Access
 polls [] = []
 polls (v ∷ vs) = rd at-lsr v ∷ polls vs
 
--- the saved line status after reads that keep their error bits, 1 to 4
-abbrev pub saved : ℕ → List ℕ → ℕ
-saved s [] = s
-saved s (v ∷ vs) = saved (bitOr s (bitAnd v line-errors)) vs
+-- a saved byte after reads whose bits under the mask are kept
+abbrev pub joined : ℕ → ℕ → List ℕ → ℕ
+joined mask s [] = s
+joined mask s (v ∷ vs) = joined mask (bitOr s (bitAnd v mask)) vs
+
+-- the driver after it kept the error bits of these line status bytes and the change bits of these modem status bytes
+abbrev pub noting : Kept → List ℕ → List ℕ → Kept
+noting k ls ms = with-saved k (joined line-errors (k .lsr) ls) (joined line-changes (k .msr) ms)
 
 -- none of the bytes shows the mask
 abbrev pub None·shows : ℕ → List ℕ → Type 0
 None·shows m [] = Unit {0}
 None·shows m (v ∷ vs) = (contains v m ≡ false) × None·shows m vs
-
--- the driver after it saved the error bits of these line status bytes
-abbrev pub noting : Kept → List ℕ → Kept
-noting k vs = with-saved k (saved (k .lsr) vs) (k .msr)
 
 -- a wait for the transmitter: polls that did not show it empty, which the count of fruitless polls grew by
 pub record Stayed·busy {S : Type 0} (d : Device S) (s t : S) (k l : Kept) (spent total : ℕ) : Type 0 where
@@ -76,7 +76,7 @@ pub record Stayed·busy {S : Type 0} (d : Device S) (s t : S) (k l : Kept) (spen
   pub busy : None·shows transmitter-empty polled
   pub count : total ≡ spent + length polled
   pub ran : Runs d (polls polled) s t
-  pub keeps : l ≡ noting k polled
+  pub keeps : l ≡ noting k polled []
 
 -- and then one that did
 pub record Seen·empty {S : Type 0} (d : Device S) (s t : S) (k l : Kept) (spent total : ℕ) : Type 0 where
@@ -86,7 +86,7 @@ pub record Seen·empty {S : Type 0} (d : Device S) (s t : S) (k l : Kept) (spent
   pub empty : contains last transmitter-empty ≡ true
   pub count : total ≡ spent + length polled
   pub ran : Runs d (polls polled ++ (rd at-lsr last ∷ [])) s t
-  pub keeps : l ≡ noting k (polled ++ (last ∷ []))
+  pub keeps : l ≡ noting k (polled ++ (last ∷ [])) []
 
 -- status registers are read to clear them
 pub data Cleared : List Access → Type 0 where
@@ -114,7 +114,7 @@ pub data Initialised (c : Config) (n : ℕ) (k : Kept) : Option Refusal → ℕ 
   given-up : (d : ℕ) → Divisor·for c d → (on : Bool) (xs ys : List Access) → Probe true xs → Opened c d on ys
       → (vs : List ℕ) → None·shows transmitter-empty vs → length vs ≡ n + 1
       → Initialised c n k (Some (refusal 9 (during Transmitter ∷ []))) (length vs)
-      (noting (with-fifo (with-config k c) on) vs) (xs ++ ys ++ polls vs)
+      (noting (with-fifo (with-config k c) on) vs []) (xs ++ ys ++ polls vs)
   -- the transmitter was empty in time: the status is cleared, and the interrupts are set
   done : (d : ℕ) → Divisor·for c d → (on : Bool) (xs ys zs : List Access) → Probe true xs → Opened c d on ys
       → (vs : List ℕ) (v : ℕ) → None·shows transmitter-empty vs → contains v transmitter-empty ≡ true → length vs ≤ n → Cleared zs

@@ -18,7 +18,7 @@ impl<B: Backend> Uart16550<B> {
     /// Reads the line status. The read clears the error bits on the device, so they are saved.
     pub(crate) fn read_lsr(&mut self) -> u8
         ensures accesses { λ r. ⌜ Runs device (rd 5 r ∷ []) (now (self .entry) .backend) (now (self .exit) .backend) ⌝ }
-        ensures keeps { λ r. ⌜ kept (now (self .exit)) ≡ noting (kept (now (self .entry))) (r ∷ []) ⌝ }
+        ensures keeps { λ r. ⌜ kept (now (self .exit)) ≡ noting (kept (now (self .entry))) (r ∷ []) [] ⌝ }
     {
         let lsr = self.backend.read(offsets::LSR);
         self.lsr_saved |= lsr & ERROR_FLAGS;

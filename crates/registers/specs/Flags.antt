@@ -58,3 +58,14 @@ tx-fifo-reset = 0x04
 -- the modem control: loop mode
 abbrev pub loop-back : ℕ
 loop-back = 0x10
+
+-- the modem status: the four changes that a read clears
+abbrev pub line-changes : ℕ
+line-changes = 0x0F
+
+-- the remote is ready to receive; the remote is there
+abbrev pub clear-to-send : ℕ
+clear-to-send = 0x10
+
+abbrev pub data-set-ready : ℕ
+data-set-ready = 0x20
