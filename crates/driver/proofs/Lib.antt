@@ -1,3 +1,5 @@
 pub mod Runs
 pub mod Waits
 pub mod Init
+pub mod Tries
+pub mod Filling

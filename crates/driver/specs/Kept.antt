@@ -1,6 +1,7 @@
 -- What the driver keeps besides its backend, and how its calls end.
 use Prim.Native.Nat.{ℕ}
 use mathlib.Core.Bool.{Bool}
+use mathlib.Core.List.{List, [], _∷_}
 use Rattle.std.specs.declared.option.Option.{Option}
 use Rattle.std.specs.declared.option.Option.the-variants.{Some, None}
 use Rattle.std.specs.declared.result.Result.{Result}
@@ -32,3 +33,8 @@ with-saved k l m = record { config = k .config; fifo = k .fifo; lsr = l; msr = m
 abbrev pub verdict : {T E : Type 0} → (E → Refusal) → Result T E → Option Refusal
 verdict f (Ok x) = None
 verdict f (Err e) = Some (f e)
+
+-- the byte in an answer, where it is one
+abbrev pub got-by : {E : Type 0} → Result ℕ E → List ℕ
+got-by (Ok b) = b ∷ []
+got-by (Err e) = []

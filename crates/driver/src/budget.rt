@@ -15,6 +15,18 @@ pub struct Waited<T> {
     pub fruitless: u32,
 }
 
+/// The answer of an exact transfer: how it ended, its fruitless polls, and the bytes that it moved,
+/// also where its budget was used up.
+#[derive(Clone, Copy)]
+pub struct Transferred {
+    /// How the call ended.
+    pub result: Result<(), BudgetError>,
+    /// The fruitless polls, one more than the budget where it was used up.
+    pub fruitless: u32,
+    /// The bytes moved.
+    pub moved: usize,
+}
+
 /// The one budget of a call, and the fruitless polls so far.
 #[derive(Drop)]
 pub struct Budget {

@@ -1,9 +1,11 @@
 //! The driver for 16550 devices.
 
 mod budget;
+mod receive;
 mod setup;
 mod status;
 mod uart;
 
+pub use budget::Transferred;
 pub use budget::Waited;
 pub use uart::Uart16550;
