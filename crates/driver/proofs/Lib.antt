@@ -3,3 +3,5 @@ pub mod Waits
 pub mod Init
 pub mod Tries
 pub mod Filling
+pub mod Sending
+pub mod Attempting

@@ -1,3 +1,4 @@
 pub mod Kept
 pub mod Traces
 pub mod Receives
+pub mod Sends

@@ -2,6 +2,7 @@
 
 mod budget;
 mod receive;
+mod send;
 mod setup;
 mod status;
 mod uart;

@@ -10,6 +10,7 @@ pub mod isr;
 pub mod lcr;
 pub mod lsr;
 pub mod mcr;
+pub mod msr;
 pub mod offsets;
 
 /// How many characters each FIFO holds.
