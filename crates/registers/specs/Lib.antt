@@ -1,5 +1,6 @@
 pub mod Offsets
 pub mod Flags
+pub mod Fields
 pub mod Fifo
 pub mod Frame
 pub mod Config
