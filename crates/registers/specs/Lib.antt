@@ -3,6 +3,9 @@ pub mod Flags
 pub mod Fields
 pub mod Fifo
 pub mod Frame
+pub mod Interrupts
+pub mod Modem
 pub mod Config
 pub mod Refusal
 pub mod Divisor
+pub mod Rate

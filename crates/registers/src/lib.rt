@@ -12,7 +12,9 @@ pub mod isr;
 pub mod lcr;
 pub mod lsr;
 pub mod mcr;
+pub mod msr;
 pub mod offsets;
+pub mod psd;
 
 /// How many characters each FIFO holds.
 pub const FIFO_SIZE: usize = 16;
