@@ -9,3 +9,6 @@ pub mod Config
 pub mod Refusal
 pub mod Divisor
 pub mod Rate
+pub mod Divisors
+pub mod Dump
+pub mod Examples

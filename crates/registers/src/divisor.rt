@@ -2,6 +2,7 @@
 
 ghost use Prim.Native.Nat.{ℕ, _+_, _*_, _<_, _≤_};
 ghost use Rattle.registers.specs.Divisor.{Divisor·of, No·divisor, No·quotient, prescaled};
+ghost use Rattle.registers.specs.Examples.{Worked·examples};
 ghost use Rattle.registers.specs.Rate.{Rate·of, No·rate};
 ghost use Rattle.registers.specs.Refusal.{baud-refusal, divisor-refusal};
 ghost use Rattle.std.specs.declared.result.Result.the-variants.{Ok, Err};
@@ -121,4 +122,38 @@ pub fn calc_frequency(
 {
     let prescaler = u128::from(prescale(prescaler_division_factor));
     16 * (prescaler + 1) * u128::from(baud_rate) * u128::from(divisor)
+}
+
+/// How many examples of the formula are worked in `specs/Examples.antt`, all of them proved.
+pub fn worked_examples() -> u8
+    ensures { λ _. ⌜ Worked·examples ⌝ }
+{
+    7
+}
+
+#[cfg(test)]
+mod tests {
+    use super::*;
+    use std::test::*;
+
+    #[test]
+    fn divisors_at_the_usual_clock() -> Result<(), Fail> {
+        check_eq(calc_divisor(CLK_FREQUENCY_HZ, 9_600, None)?, 12)?;
+        check_eq(calc_divisor(CLK_FREQUENCY_HZ, 115_200, None)?, 1)?;
+        check_eq(calc_divisor(CLK_FREQUENCY_HZ, 7_200, Some(15))?, 1)
+    }
+
+    #[test]
+    fn refusals_at_the_usual_clock() -> Result<(), Fail> {
+        let no_integer = InvalidDivisorError::NonInteger(NonIntegerDivisorError {
+            frequency: CLK_FREQUENCY_HZ,
+            baud_rate: 110,
+            prescaler_division_factor: None,
+        });
+        check_eq(calc_divisor(CLK_FREQUENCY_HZ, 110, None), Err(no_integer))?;
+        let too_large = InvalidDivisorError::OutOfRange { divisor: 115_200 };
+        check_eq(calc_divisor(CLK_FREQUENCY_HZ, 1, None), Err(too_large))?;
+        let prescaler = InvalidDivisorError::InvalidPrescaler;
+        check_eq(calc_divisor(CLK_FREQUENCY_HZ, 7_200, Some(16)), Err(prescaler))
+    }
 }

@@ -3,6 +3,8 @@
 
 pub mod config;
 pub mod divisor;
+pub mod divisors;
+pub mod dump;
 pub mod error;
 pub mod fcr;
 mod fields;
