@@ -2,3 +2,4 @@ pub mod Kept
 pub mod Traces
 pub mod Receives
 pub mod Sends
+pub mod Getters

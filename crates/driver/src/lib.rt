@@ -1,6 +1,7 @@
 //! The driver for 16550 devices.
 
 mod budget;
+mod getters;
 mod receive;
 mod send;
 mod setup;

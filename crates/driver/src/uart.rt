@@ -1,7 +1,11 @@
 //! The driver.
 
 ghost use Prim.Native.Nat.{ℕ};
+ghost use denote.Follow.{follows};
+ghost use denote.Ref.{name};
+ghost use ghost.Atoms.{sem};
 ghost use lib.Dec.{eqb};
+ghost use Rattle.driver.specs.contracts.uart.Uart16550.{the-row};
 ghost use mathlib.Core.List.{[], _∷_};
 ghost use Rattle.backends.specs.Device.{Runs, rd, wr};
 ghost use Rattle.driver.specs.Traces.{Ran, Patterns, Probe, Initialised};
@@ -50,6 +54,7 @@ impl<B: Backend> Uart16550<B> {
         ensures accesses { λ r. ⌜ Ran device (Probe r) (now (self .entry) .backend) (now (self .exit) .backend) ⌝ }
         ensures keeps { λ _. ⌜ kept (now (self .exit)) ≡ kept (now (self .entry)) ⌝ }
     {
+        // others may use the scratch register
         let old = self.backend.read(offsets::SPR);
         let present = self.keeps_patterns();
         self.backend.write(offsets::SPR, old);
@@ -58,6 +63,27 @@ impl<B: Backend> Uart16550<B> {
 }
 
 impl<B> Uart16550<B> {
+    /// The configuration.
+    pub fn config(&self) -> &Config
+        ensures { λ r. ⌜ now r ≡ now (self .entry) .config ⌝ }
+    {
+        &self.config
+    }
+
+    /// Whether the FIFOs are used: what the last initialisation found, and true before any.
+    pub fn fifo_enabled(&self) -> bool
+        ensures { λ r. ⌜ r ≡ now (self .entry) .«fifo_enabled» ⌝ }
+    {
+        self.fifo_enabled
+    }
+
+    /// The backend, to be accessed past the driver.
+    pub fn backend_mut(&mut self) -> &mut B
+        ensures { λ r. sem 𝓤 H A (follows (the-row B·row) B·row (name (self .entry)) (name r) (λ w. record { backend = w; config = now (self .entry) .config; «fifo_enabled» = now (self .entry) .«fifo_enabled»; «lsr_saved» = now (self .entry) .«lsr_saved»; «msr_saved» = now (self .entry) .«msr_saved» })) }
+    {
+        &mut self.backend
+    }
+
     /// The backend.
     pub fn backend(&self) -> &B
         ensures { λ r. ⌜ now r ≡ now (self .entry) .backend ⌝ }
