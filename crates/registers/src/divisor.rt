@@ -15,6 +15,8 @@ use crate::error::NonIntegerDivisorError;
 
 /// The usual clock of a 16550, 1.8432 MHz.
 pub const CLK_FREQUENCY_HZ: u32 = 1_843_200;
+/// The largest divisor that its two bytes hold.
+pub const MAX_DIVISOR: u32 = 65_535;
 
 /// The prescaler as the formula has it: 0 where there is none.
 fn prescale(prescaler_division_factor: Option<u32>) -> u32
@@ -73,7 +75,7 @@ pub fn calc_divisor(
             prescaler_division_factor,
         }));
     };
-    if divisor > 65_535 {
+    if divisor > MAX_DIVISOR {
         return Err(InvalidDivisorError::OutOfRange { divisor });
     }
     Ok(divisor as u16)
