@@ -4,3 +4,7 @@ pub mod Log
 pub mod Recorder
 pub mod Space
 pub mod Place
+pub mod Alike
+pub mod Adapters
+pub mod Window
+pub mod Pair

@@ -84,6 +84,14 @@ impl PortPlace {
         Ok(PortPlace { base })
     }
 
+    /// The port of a register, as an address.
+    pub(crate) fn port_of(&self, offset: u8) -> u64
+        requires { ⌜ offset < 8 ⌝ }
+        ensures { λ r. ⌜ r ≡ register (now (self .entry) .base) 1 offset ⌝ }
+    {
+        u64::from(self.base) + u64::from(offset)
+    }
+
     /// The same addresses, as a place of a 64-bit address space.
     pub(crate) fn widened(self) -> MmioPlace
         ensures { λ r. ⌜ (r .base ≡ self .base) × (r .stride ≡ 1) ⌝ }
