@@ -1,3 +1,4 @@
+pub mod Examples
 pub mod Windows
 pub mod Pairs
 pub mod Alike

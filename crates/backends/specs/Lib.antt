@@ -8,3 +8,4 @@ pub mod Alike
 pub mod Adapters
 pub mod Window
 pub mod Pair
+pub mod Worked

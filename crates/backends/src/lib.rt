@@ -1,4 +1,5 @@
-//! What a device is, and how it is reached: the backend interface, a scripted device and a recorder.
+//! What a device is, and how it is reached: the backend interface, a scripted device and a recorder;
+//! address spaces, and the adapters between the two.
 
 mod access;
 mod access_log;
@@ -11,6 +12,7 @@ mod recorder;
 mod script;
 mod space;
 mod window;
+mod worked;
 
 pub use access::Access;
 pub use access::Kind;
@@ -31,3 +33,4 @@ pub use script::ScriptBackend;
 pub use space::Space;
 pub use window::Window;
 pub use window::WindowSpace;
+pub use worked::worked_addresses;
