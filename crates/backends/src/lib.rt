@@ -15,6 +15,8 @@ mod window;
 mod worked;
 
 pub use access::Access;
+pub use access::AccessDebug;
+pub use access::AccessPartialEq;
 pub use access::Kind;
 pub use access_log::AccessLog;
 pub use backend::Backend;
