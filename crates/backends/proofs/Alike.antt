@@ -38,11 +38,11 @@ module _ {M S : Type 0} (e : Device M) (d : Device S) (seen : S → M) (I : S �
   widened : Agree (whole e) (whole d) seen I (λ k. Unit {0})
   widened = record {
     gives = λ s i k p.
-      ⊎-elim (λ l. simp (lt-ltb k 8 l) (agree .gives s i k l)) (λ l. simp (le-ltb k 8 l)) (cases-lt k 8);
+        ⊎-elim (λ l. simp (lt-ltb k 8 l) (agree .gives s i k l)) (λ l. simp (le-ltb k 8 l)) (cases-lt k 8);
     next = λ s i k p.
-      ⊎-elim (λ l. simp (lt-ltb k 8 l) (agree .next s i k l)) (λ l. simp (le-ltb k 8 l) (refl, i)) (cases-lt k 8);
+        ⊎-elim (λ l. simp (lt-ltb k 8 l) (agree .next s i k l)) (λ l. simp (le-ltb k 8 l) (refl, i)) (cases-lt k 8);
     write = λ s i k v p.
-      ⊎-elim (λ l. simp (lt-ltb k 8 l) (agree .write s i k v l)) (λ l. simp (le-ltb k 8 l) (refl, i)) (cases-lt k 8);
+        ⊎-elim (λ l. simp (lt-ltb k 8 l) (agree .write s i k v l)) (λ l. simp (le-ltb k 8 l) (refl, i)) (cases-lt k 8);
   }
 
   -- every offset is an offset

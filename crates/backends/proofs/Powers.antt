@@ -26,9 +26,9 @@ one-set (suc d) n h e =
     let p = pow-suc 2 d in
     let s = ones-step n in
     ⊎-elim
-      (λ even. let r = one-set d (n / 2) (omega arith) (omega arith) in (suc (r .0), omega (arith, pow-suc 2 (r .0), r .1)))
-      (λ odd. let r = none-set d (n / 2) (omega arith) (omega arith) in (0, omega arith))
-      (cases-lt (n % 2) 1)
+    (λ even. let r = one-set d (n / 2) (omega arith) (omega arith) in (suc (r .0), omega (arith, pow-suc 2 (r .0), r .1)))
+    (λ odd. let r = none-set d (n / 2) (omega arith) (omega arith) in (0, omega arith))
+    (cases-lt (n % 2) 1)
 
 -- a power of two has one bit
 pub power-ones : (n : ℕ) → Power·of·two n → ones n ≡ 1

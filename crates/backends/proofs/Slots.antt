@@ -23,19 +23,19 @@ module _ (base stride a : ℕ) (none : Elsewhere base stride a) where
   far z l =
       let split = div-add-mod' (a - base) stride in
       ⊎-elim
-        (λ (q : (a - base) / stride < 8). absurd (none ((a - base) / stride) q (omega arith)))
-        (λ (q : 8 ≤ (a - base) / stride). omega arith)
-        (cases-lt ((a - base) / stride) 8)
+      (λ (q : (a - base) / stride < 8). absurd (none ((a - base) / stride) q (omega arith)))
+      (λ (q : 8 ≤ (a - base) / stride). omega arith)
+      (cases-lt ((a - base) / stride) 8)
 
   -- where none stands the offset is 8
   pub no-slot : offset-at base stride a ≡ 8
   no-slot =
       ⊎-elim
-        (λ (l : a < base). simp (lt-ltb a base l))
-        (λ (l : base ≤ a). ⊎-elim
-          (λ (z : (a - base) % stride < 1).
-            let even : (a - base) % stride ≡ 0 = omega arith in
-            simp (le-ltb a base l, eq-eqb ((a - base) % stride) 0 even) (far even l))
-          (λ (z : 1 ≤ (a - base) % stride). simp (le-ltb a base l, ne-eqb ((a - base) % stride) 0 (λ e. omega arith)))
-          (cases-lt ((a - base) % stride) 1))
-        (cases-lt a base)
+      (λ (l : a < base). simp (lt-ltb a base l))
+      (λ (l : base ≤ a). ⊎-elim
+      (λ (z : (a - base) % stride < 1).
+      let even : (a - base) % stride ≡ 0 = omega arith in
+      simp (le-ltb a base l, eq-eqb ((a - base) % stride) 0 even) (far even l))
+      (λ (z : 1 ≤ (a - base) % stride). simp (le-ltb a base l, ne-eqb ((a - base) % stride) 0 (λ e. omega arith)))
+      (cases-lt ((a - base) % stride) 1))
+      (cases-lt a base)

@@ -51,10 +51,10 @@ module _ {S : Type 0} (d : Device S) where
       mmio-adapter = λ p f g. alike _ _ _ _ (mmio-agrees p f g) (w .backend) tt;
       port-adapter = λ p f g. alike _ _ _ _ (port-agrees p f g) (w .backend) tt;
       elsewhere = λ a none.
-        let e = no-slot (w .place .base) (w .place .stride) a none in
-        record {
-          gives = ap (λ n. reads d (w .backend) n) e;
-          next = ap (λ n. record { place = w .place; backend = moves d (w .backend) n }) e;
-          write = λ v. ap (λ n. record { place = w .place; backend = writes d (w .backend) n v }) e;
-        };
+          let e = no-slot (w .place .base) (w .place .stride) a none in
+          record {
+            gives = ap (λ n. reads d (w .backend) n) e;
+            next = ap (λ n. record { place = w .place; backend = moves d (w .backend) n }) e;
+            write = λ v. ap (λ n. record { place = w .place; backend = writes d (w .backend) n v }) e;
+          };
     }

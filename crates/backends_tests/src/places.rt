@@ -51,7 +51,10 @@ fn refusal(answer: Answer, base: u64, stride: u8) -> Option<InvalidAddressError>
 #[test]
 fn mmio() -> Result<(), Fail> {
     for (base, stride, answer) in PLACES {
-        check_eq(MmioPlace::new(base, stride).err(), refusal(answer, base, stride))?;
+        check_eq(
+            MmioPlace::new(base, stride).err(),
+            refusal(answer, base, stride),
+        )?;
     }
     Ok(())
 }
@@ -59,7 +62,10 @@ fn mmio() -> Result<(), Fail> {
 #[test]
 fn ports() -> Result<(), Fail> {
     for (base, answer) in PORTS {
-        check_eq(PortPlace::new(base).err(), refusal(answer, u64::from(base), 1))?;
+        check_eq(
+            PortPlace::new(base).err(),
+            refusal(answer, u64::from(base), 1),
+        )?;
     }
     Ok(())
 }
