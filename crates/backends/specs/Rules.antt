@@ -225,4 +225,4 @@ pub record Writing (m : Chip·state) (k v : ℕ) (n : Chip·state) : Type 0 wher
 -- the device with this meaning keeps the rules, in every state and at every access
 pub record Keeps·rules {S : Type 0} (d : Device S) (meaning : S → Chip·state) : Type 0 where
   pub reading : (s : S) (k : ℕ) → k < 8 → Reading (meaning s) k (d .reader .gives s k) (meaning (d .reader .next s k))
-  pub writing : (s : S) (k v : ℕ) → k < 8 → v < 256 → Writing (meaning s) k v (meaning (d .write s k v))
+  pub writing : (s : S) (k v : ℕ) → k < 8 → Writing (meaning s) k v (meaning (d .write s k v))
