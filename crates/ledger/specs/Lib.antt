@@ -1,1 +1,3 @@
-
+pub mod Reported
+pub mod Did
+pub mod Law

@@ -1,5 +1,8 @@
 //! Playing calls.
 
+ghost use Rattle.driver.specs.Kept.{kept};
+ghost use Rattle.ledger.specs.Did.{Did};
+ghost use Rattle.ledger.specs.Law.{Law};
 use crate::call::Answer;
 use crate::call::Call;
 use backends::Backend;
@@ -7,6 +10,7 @@ use driver::Uart16550;
 
 /// Makes one call; its buffer is filled in place.
 pub fn perform<B: Backend>(uart: &mut Uart16550<B>, call: &mut Call) -> Answer
+    ensures { λ r. ⌜ Did device (now (uart .entry) .backend) (now (uart .exit) .backend) (kept (now (uart .entry))) (kept (now (uart .exit))) (now (call .exit)) r ⌝ }
 {
     match call {
         Call::TryReceive => Answer::Byte(uart.try_receive_byte()),
