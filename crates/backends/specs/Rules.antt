@@ -222,7 +222,8 @@ pub record Writing (m : Chip·state) (k v : ℕ) (n : Chip·state) : Type 0 wher
   pub before : Moved m mid
   pub acts : Writes mid k v n
 
--- the device with this meaning keeps the rules, in every state and at every access
+-- the device with this meaning keeps the rules, in every state and at every access; without FIFOs at most one character waits
 pub record Keeps·rules {S : Type 0} (d : Device S) (meaning : S → Chip·state) : Type 0 where
   pub reading : (s : S) (k : ℕ) → k < 8 → Reading (meaning s) k (d .reader .gives s k) (meaning (d .reader .next s k))
   pub writing : (s : S) (k v : ℕ) → k < 8 → Writing (meaning s) k v (meaning (d .write s k v))
+  pub single : (s : S) → is-on (meaning s .setup .fifos) ≡ false → length (meaning s .receiver .waiting) ≤ 1

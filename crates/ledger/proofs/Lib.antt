@@ -1,1 +1,3 @@
-
+pub mod Shown
+pub mod Order
+pub mod Arrivals

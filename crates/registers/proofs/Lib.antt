@@ -1,3 +1,3 @@
-mod Bits
+pub mod Bits
 mod Listing
 mod Masks
