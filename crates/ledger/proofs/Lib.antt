@@ -1,3 +1,4 @@
 pub mod Shown
 pub mod Order
 pub mod Arrivals
+pub mod Ledger
