@@ -2,3 +2,4 @@ pub mod Shown
 pub mod Order
 pub mod Arrivals
 pub mod Ledger
+pub mod Steps
