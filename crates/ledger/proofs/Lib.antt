@@ -3,3 +3,5 @@ pub mod Order
 pub mod Arrivals
 pub mod Ledger
 pub mod Steps
+pub mod Pieces
+pub mod Calls

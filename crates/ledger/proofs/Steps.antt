@@ -84,6 +84,7 @@ module _ {S : Type 0} (d : Device S) (meaning : S → Chip·state) (law : Keeps�
       pub ledger : At base out gone σ t (noting k (v ∷ []) [])
       pub ready : contains v data-ready ≡ some-wait (meaning t .receiver .waiting)
       pub room : contains v thr-empty ≡ idle (meaning t .transmitter)
+      pub fresh : meaning t .receiver .seen ≡ meaning t .receiver .counts
 
     pub read-lsr : (v : ℕ) → v ≡ d .reader .gives s 5 → Status·read v (d .reader .next s 5)
     read-lsr v e =
@@ -92,7 +93,7 @@ module _ {S : Type 0} (d : Device S) (meaning : S → Chip·state) (law : Keeps�
         let x = r .acts .line-status refl in
         rw e (record
         { ledger = rw (x .1) (noticed-ledger start base out gone σ k (r .mid) (d .reader .gives s 5) (a .ledger) (x .0))
-        ; ready = rw (x .1) (x .0 .ready); room = rw (x .1) (x .0 .room) })
+        ; ready = rw (x .1) (x .0 .ready); room = rw (x .1) (x .0 .room); fresh = rw (x .1) refl })
 
     -- a character that waits is read
     pub read-data : (v : ℕ) → v ≡ d .reader .gives s 0 → contains (σ .lcr) divisor-access ≡ false → some-wait (meaning s .receiver .waiting) ≡ true
