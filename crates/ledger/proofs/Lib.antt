@@ -5,3 +5,6 @@ pub mod Ledger
 pub mod Steps
 pub mod Pieces
 pub mod Calls
+pub mod Lists
+pub mod Setting
+pub mod Starting

@@ -133,3 +133,11 @@ pub record Law {S : Type 0} (d : Device S) (meaning : S → Chip·state) (c : Co
   pub given : meaning t .transmitter .given ≡ meaning (start .at) .transmitter .given ++ taken list
   -- and lsr() told of every error
   pub errors : Errors·shown (meaning (start .at) .receiver .counts) list states
+
+-- an init and, where it was accepted, a list of calls: what it left of the list, and its answer
+pub data Outcome {S : Type 0} (d : Device S) (meaning : S → Chip·state) (c : Config) (budget : ℕ) (s t : S) (k l : Kept) (before after : List Entry) :
+    Option Refusal → ℕ → Type 0 where
+  -- init was refused: the calls were not made
+  refused : (x : Refusal) (n : ℕ) → Ran d (Initialised c budget k (Some x) n l) s t → after ≡ before → Outcome d meaning c budget s t k l before after (Some x) n
+  -- it was accepted: the law holds
+  played : (n : ℕ) → Law d meaning c s t k l after → Outcome d meaning c budget s t k l before after None n

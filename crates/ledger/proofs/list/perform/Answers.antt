@@ -3,7 +3,7 @@ use mathlib.Core.Path.{_∙_}
 use Rattle.std.specs.Changed.{refilled}
 use Rattle.std.proofs.shelf.Lists.{refilled-is}
 use Rattle.ledger.specs.Did as did
-use Rattle.ledger.proofs.play.perform.Needs as need
+use Rattle.ledger.proofs.list.perform.Needs as need
 
 pub returns-in-TryReceive : need.returns-in-TryReceive
 returns-in-TryReceive g c = rw (c .in-TryReceive .is) (did.try-receive (c .try-receive-byte .result) (c .try-receive-byte .ensures))

@@ -2,11 +2,20 @@
 
 ghost use Rattle.driver.specs.Kept.{kept};
 ghost use Rattle.ledger.specs.Did.{Did};
-ghost use Rattle.ledger.specs.Law.{Law};
+ghost use Rattle.backends.specs.Chip.{Chip·state};
+ghost use Rattle.ledger.specs.Law.{Law, Played, Outcome};
+ghost use Rattle.driver.specs.Kept.{verdict};
+ghost use Rattle.registers.specs.Refusal.{init-refusal};
+ghost use mathlib.Core.List.{List};
 use crate::call::Answer;
 use crate::call::Call;
+use crate::call::Entry;
 use backends::Backend;
+use backends::Chip;
 use driver::Uart16550;
+use driver::Waited;
+use registers::config::Config;
+use registers::error::InitError;
 
 /// Makes one call; its buffer is filled in place.
 pub fn perform<B: Backend>(uart: &mut Uart16550<B>, call: &mut Call) -> Answer
@@ -43,5 +52,28 @@ pub fn perform<B: Backend>(uart: &mut Uart16550<B>, call: &mut Call) -> Answer
             Answer::Divisor(low, high)
         }
         Call::Dump => Answer::Dump(uart.config_register_dump()),
+    }
+}
+
+/// Initialises the chip and, where that was accepted, makes the calls one after the other.
+///
+/// Of every driver, chip and list, whenever characters arrive or leave: no character is lost in
+/// silence, the line is given exactly what sends report taken, and `lsr` tells of every error.
+pub fn play<C: Chip>(uart: &mut Uart16550<C>, config: Config, budget: u16, calls: &mut [Entry]) -> Waited<Result<(), InitError>>
+    ensures { λ r. ⌜ Outcome (C·Backend .device) (C·Chip .meaning) config budget (now (uart .entry) .backend) (now (uart .exit) .backend) (kept (now (uart .entry))) (kept (now (uart .exit))) (now (calls .entry)) (now (calls .exit)) (verdict init-refusal (r .result)) (r .fruitless) ⌝ }
+{
+    let answer = uart.init(config, budget);
+    if let Ok(()) = answer.result {
+        play_all(uart, calls);
+    }
+    answer
+}
+
+/// Makes the calls one after the other.
+fn play_all<C: Chip>(uart: &mut Uart16550<C>, calls: &mut [Entry])
+    ensures { λ _. ⌜ ((ms : List Chip·state) × Played (C·Backend .device) (C·Chip .meaning) (now (uart .entry) .backend) (kept (now (uart .entry))) (now (calls .exit)) ms (now (uart .exit) .backend) (kept (now (uart .exit)))) ⌝ }
+{
+    for entry in calls.iter_mut() {
+        entry.answer = perform(uart, &mut entry.call);
     }
 }
