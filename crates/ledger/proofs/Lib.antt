@@ -8,3 +8,4 @@ pub mod Calls
 pub mod Lists
 pub mod Setting
 pub mod Starting
+pub mod Whole

@@ -30,6 +30,7 @@ use Rattle.backends.specs.Device.{Device, Runs, rd, wr}
 use Rattle.backends.specs.Rules.{Keeps·rules, Shows·fifos, with-lcr, with-mcr, with-dll, with-dlm, with-fifos}
 use Rattle.driver.specs.Kept.{Kept, with-config, with-fifo, with-saved}
 use Rattle.driver.specs.Traces.{Ran, Probe, probe, Patterns, both-back, first-lost, second-lost, line-set-up, Fifo·set-up, unwanted, asked, Discarded, all-read, none-left, one-read, polls, Cleared, cleared, Opened, opened, Divisor·for, Initialised, done}
+use Rattle.driver.proofs.Runs.{runs-append}
 use Rattle.ledger.specs.Law.{Within, none, Accounted, Shows·errors, No·status, Start, Set·up, bytes}
 use Rattle.ledger.proofs.Order.{within-same}
 use Rattle.ledger.proofs.Setting as setting
@@ -179,3 +180,64 @@ module _ {S : Type 0} (d : Device S) (meaning : S → Chip·state) (law : Keeps�
       let f = fifo-set (c .«fifo_trigger_level») b ys (z .0) (y .0) (set c dv (σ .mcr) (σ .fifos)) fs (z .2) a in
       let e = discarded-set 17 zs (y .0) (x .0) (set c dv (σ .mcr) (f .0)) ds (y .2) (f .1) in
       (f .0, subst (λ u. Set d meaning law u (set c dv 0x0B (f .0))) (x .2 .1) (setting.wr-mcr d meaning law (x .0) (set c dv (σ .mcr) (f .0)) e 0x0B), f .2)
+
+  -- a read of the line status leaves nothing unseen
+  fresh : (u : S) → meaning (d .reader .next u 5) .receiver .seen ≡ meaning (d .reader .next u 5) .receiver .counts
+  fresh u = let r = law .reading u 5 (lit< tt) in let e = r .acts .line-status refl .1 in ap (λ x. x .receiver .seen) e ∙ sym (ap (λ x. x .receiver .counts) e)
+
+  -- nothing has been handed out or taken yet
+  first-entry : (u : S) (σ : Setup) (l : Kept) → Set d meaning law (d .reader .next u 5) σ → contains (σ .mcr) loop-back ≡ false → l .fifo ≡ is-on (σ .fifos) → l .lsr ≡ 0
+    → At d meaning law (meaning (d .reader .next u 5)) (meaning (d .reader .next u 5) .receiver .counts) [] [] σ (d .reader .next u 5) l
+  first-entry u σ l h q f z =
+      let m = meaning (d .reader .next u 5) in
+      record
+      { setup = h; quiet = q; fifo = f
+      ; account = record
+        { since = []; came = sym (append-nil (m .receiver .arrived)); lost = 0; newly = omega arith; sum = omega arith
+        ; order = rw append-nil (within-same (bytes (m .receiver .waiting))) }
+      ; given = sym (append-nil (m .transmitter .given))
+      ; saved = rw (z, fresh u) (shows-none (m .receiver .counts))
+      ; older = rw (fresh u) (grown-same (m .receiver .counts)); newer = rw (fresh u) (grown-same (m .receiver .counts)) }
+
+  pub record Begun (c : Config) (s t : S) (l : Kept) : Type 0 where
+    pub start : Start d s t
+    pub set-up : Set·up c (meaning t) l
+    pub σ : Setup
+    pub closed : contains (σ .lcr) divisor-access ≡ false
+    pub ledger : At d meaning law (meaning (start .at)) (meaning (start .at) .receiver .counts) [] [] σ t l
+
+  from : (c : Config) (n : ℕ) (k : Kept) (f : ℕ) (l : Kept) (all : List Access) (s t : S) → Initialised c n k None f l all → Runs d all s t → Begun c s t l
+  from c n k f l all s t (done dv h b xs ys zs px oy vs v busy empty within (cleared a i e)) w =
+      let ps = polls vs ++ (rd 5 v ∷ []) in
+      let x = runs-split (xs ++ ys ++ ps ++ (rd 5 a ∷ rd 2 i ∷ rd 6 e ∷ [])) (wr 1 (c .interrupts) ∷ []) s t w in
+      let y = runs-split (xs ++ ys ++ ps) (rd 5 a ∷ rd 2 i ∷ rd 6 e ∷ []) s (x .0) (x .1) in
+      let z = runs-split (xs ++ ys) ps s (y .0) (y .1) in
+      let q = runs-split xs ys s (z .0) (z .1) in
+      let p = runs-split (polls vs) (rd 5 v ∷ []) (z .0) (y .0) (z .2) in
+      let o = opened-set c dv b ys (q .0) (z .0) (meaning s .setup) oy (q .2) (probe-set true xs s (q .0) (meaning s .setup) px (q .1) refl) in
+      let σ₁ = set c dv 0x0B (o .0) in
+      let g : Set d meaning law (y .0) σ₁ = subst (λ u. Set d meaning law u σ₁) (p .2 .1) (setting.rd-lsr d meaning law (p .0) σ₁ (polls-set vs (z .0) (p .0) σ₁ (p .1) (o .1))) in
+      let u = y .0 in
+      let m = meaning (d .reader .next u 5) in
+      let first = first-entry u σ₁ (with-saved (with-fifo (with-config k c) b) 0 0) (setting.rd-lsr d meaning law u σ₁ g) raised-quiet (o .2) refl in
+      let open-σ = frame-closed (c .«data_bits») (c .«extra_stop_bits») (c .parity) in
+      let j₁ = steps.read-isr d meaning law m (m .receiver .counts) [] [] σ₁ _ _ first in
+      let j₂ = steps.read-msr d meaning law m (m .receiver .counts) [] [] σ₁ _ _ (j₁ .ledger) in
+      let j₃ = steps.write-ier d meaning law m (m .receiver .counts) [] [] σ₁ _ _ (j₂ .ledger) (c .interrupts) open-σ in
+      let tail = runs-append d (rd 2 i ∷ rd 6 e ∷ []) (wr 1 (c .interrupts) ∷ []) (d .reader .next u 5) (x .0) t (y .2 .1) (x .2) in
+      let end : At d meaning law m (m .receiver .counts) [] [] σ₁ t (with-saved (with-fifo (with-config k c) b) 0 0) =
+            subst (λ v. At d meaning law m (m .receiver .counts) [] [] σ₁ v (with-saved (with-fifo (with-config k c) b) 0 0)) (tail .1 .1 .1) (j₃ .ledger) in
+      record
+      { start = record
+        { before = xs ++ ys ++ ps; status = a; at = d .reader .next u 5; rest = rd 2 i ∷ rd 6 e ∷ wr 1 (c .interrupts) ∷ []
+        ; reached = runs-append d (xs ++ ys ++ ps) (rd 5 a ∷ []) s u (d .reader .next u 5) (y .1) (y .2 .0, refl)
+        ; left = tail
+        ; last = ((λ z. let y : _≡_ {A = ℕ} 2 5 = ap (λ x. x .offset) z in omega arith), ((λ z. let y : _≡_ {A = ℕ} 6 5 = ap (λ x. x .offset) z in omega arith), ((λ z. let y : _≡_ {A = ℕ} 1 5 = ap (λ x. x .offset) z in omega arith), tt))) }
+      ; set-up = record
+        { divisor = dv; right = h; latched = rw (end .setup) (div-add-mod' dv 256); framed = ap (λ x. x .lcr) (end .setup)
+        ; raised = ap (λ x. x .mcr) (end .setup); fifos = o .2 ∙ sym (ap (λ x. is-on (x .fifos)) (end .setup)) }
+      ; σ = σ₁; closed = open-σ; ledger = end }
+
+  -- the start, and everything that the list finds
+  pub begun : (c : Config) (n : ℕ) (k l : Kept) (f : ℕ) (s t : S) → Ran d (Initialised c n k None f l) s t → Begun c s t l
+  begun c n k l f s t r = from c n k f l (r .0) s t (r .1) (r .2)

@@ -118,10 +118,11 @@ pub record Set·up (c : Config) (m : Chip·state) (k : Kept) : Type 0 where
   pub fifos : k .fifo ≡ is-on (m .setup .fifos)
 
 -- From the start, through the rest of an init that answered Ok, and the list: the whole law.
-pub record Law {S : Type 0} (d : Device S) (meaning : S → Chip·state) (c : Config) (s t : S) (k l : Kept) (list : List Entry) : Type 0 where
+pub record Law {S : Type 0} (d : Device S) (meaning : S → Chip·state) (c : Config) (budget fruitless : ℕ) (s t : S) (k l : Kept) (list : List Entry) : Type 0 where
   -- init led from s to a state in which the driver kept n
   pub ready : S
   pub n : Kept
+  pub init : Ran d (Initialised c budget k None fruitless n) s ready
   pub start : Start d s ready
   pub set-up : Set·up c (meaning ready) n
   -- the calls led from there to t
@@ -140,4 +141,4 @@ pub data Outcome {S : Type 0} (d : Device S) (meaning : S → Chip·state) (c : 
   -- init was refused: the calls were not made
   refused : (x : Refusal) (n : ℕ) → Ran d (Initialised c budget k (Some x) n l) s t → after ≡ before → Outcome d meaning c budget s t k l before after (Some x) n
   -- it was accepted: the law holds
-  played : (n : ℕ) → Law d meaning c s t k l after → Outcome d meaning c budget s t k l before after None n
+  played : (n : ℕ) → Law d meaning c budget n s t k l after → Outcome d meaning c budget s t k l before after None n
