@@ -5,3 +5,4 @@ pub mod Tries
 pub mod Filling
 pub mod Sending
 pub mod Attempting
+pub mod Looping
