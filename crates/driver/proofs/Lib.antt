@@ -6,3 +6,4 @@ pub mod Filling
 pub mod Sending
 pub mod Attempting
 pub mod Looping
+pub mod LoopTest

@@ -168,8 +168,8 @@ pub data Loop·tested (n : ℕ) (k : Kept) (place : List ℕ) : Option Refusal �
     → (modem′ changes : ℕ) → Line·changes modem modem′ changes
     → Loop·tested n k place x (length vs + wasted ps) after
       (with-saved (with-fifo k on) (joined line-errors (k .lsr) (vs ++ (v ∷ []))) (bitOr (joined line-changes (k .msr) (modem ∷ modems-of ps)) changes))
-      (rd at-mcr mcr ∷ rd at-ier ier ∷ (polls vs ++ (rd at-lsr v ∷ [])) ++ (rd at-msr modem ∷ wr at-ier 0 ∷ wr at-mcr loop-back ∷ xs)
-      ++ accesses ps ++ restores mcr ier modem′)
+      (rd at-mcr mcr ∷ rd at-ier ier ∷ (polls vs ++ (rd at-lsr v ∷ [])) ++ (rd at-msr modem ∷ wr at-ier 0 ∷ wr at-mcr loop-back ∷ [])
+      ++ (xs ++ accesses ps) ++ restores mcr ier modem′)
 
 -- The steps as the driver's methods: from the state s and what was kept, k, to the state t and what is kept then, l
 
