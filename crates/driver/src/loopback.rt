@@ -174,8 +174,8 @@ impl<B: Backend> Uart16550<B> {
     {
         let mut back = [0; 16];
         self.echo_message(&mut back, budget)?;
-        let mask = mask_of(self.config.data_bits);
-        if !same_bits(&back, &TEST_MESSAGE, mask) {
+        let bits = mask_of(self.config.data_bits);
+        if !same_bits(&back, &TEST_MESSAGE, bits) {
             *place = back;
             return Err(LoopbackError::UnexpectedLoopbackMsg);
         }

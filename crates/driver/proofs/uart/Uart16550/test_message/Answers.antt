@@ -12,8 +12,8 @@ returns-in-Break-echo-message g c =
 
 pub returns-then-not-same-bits : need.returns-then-not-same-bits
 returns-then-not-same-bits g c =
-    other-came (g .B·Backend .device) _ _ _ _ _ _ _ (c .mask-of-mask .result) _ _ (c .in-Continue-echo-message .ensures tt) (c .mask-of-mask .ensures) (c .if-not-same-bits .ensures tt)
+    other-came (g .B·Backend .device) _ _ _ _ _ _ _ (c .mask-of-bits .result) _ _ (c .in-Continue-echo-message .ensures tt) (c .mask-of-bits .ensures) (c .if-not-same-bits .ensures tt)
 
 pub returns : need.returns
 returns g c =
-    same-came (g .B·Backend .device) _ _ _ _ _ _ _ (c .mask-of-mask .result) _ _ (c .in-Continue-echo-message .ensures tt) (c .mask-of-mask .ensures) (c .if-not-same-bits .ensures tt)
+    same-came (g .B·Backend .device) _ _ _ _ _ _ _ (c .mask-of-bits .result) _ _ (c .in-Continue-echo-message .ensures tt) (c .mask-of-bits .ensures) (c .if-not-same-bits .ensures tt)
