@@ -144,6 +144,8 @@ pub fn calculations(cases: &mut Cases) {
             (1_958_400, 17, 16),
             (large, large, large),
             (1_843_200, 1 << 28, large),
+            // 16 × (p + 1) × other is 524,288 more than a power of 2 that 64 bits do not hold
+            (524_288, 1_073_709_057, 1_073_774_591),
         ] {
             cases.line(format!("{name} {f} {other} {p}"));
         }
