@@ -43,12 +43,7 @@ pub struct Device {
 
 impl Device {
     pub fn new(source: Source) -> Device {
-        Device {
-            source,
-            given: Vec::new(),
-            log: Vec::new(),
-            watch: Watch::idle(),
-        }
+        Device { source, given: Vec::new(), log: Vec::new(), watch: Watch::idle() }
     }
 
     fn cut_if_used_up(&self) {

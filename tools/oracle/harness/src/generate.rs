@@ -3,10 +3,15 @@
 use crate::chip::{Chip, Manner};
 use crate::device::{Device, Source};
 use crate::edges;
+use crate::facts;
 use crate::play::Player;
 use crate::pure::pure;
 use crate::random::Random;
 use crate::text::{NAMED_RATES, hex, number, wrong};
+
+pub const LEVELS: [&str; 4] = ["1", "4", "8", "14"];
+pub const LENGTHS: [&str; 4] = ["5", "6", "7", "8"];
+pub const PARITIES: [&str; 5] = ["disabled", "odd", "even", "forced1", "forced0"];
 
 /// The cases so far.
 pub struct Cases {
@@ -112,7 +117,7 @@ impl Cases {
         let level = random.pick(&["-", "1", "4", "8", "14", "14"]);
         let bits = random.pick(&["5", "6", "7", "8", "8"]);
         let stop = random.below(2);
-        let parity = random.pick(&["disabled", "odd", "even", "forced1", "forced0"]);
+        let parity = random.pick(&PARITIES);
         let ier = random.byte();
         let cts = random.below(2);
         format!("init 1843200 {rate} - {level} {bits} {stop} {parity} {ier:02X} {cts} {OPEN}30")
@@ -125,8 +130,24 @@ impl Cases {
     /// Any call but `init` and the loopback test.
     pub fn any_call(&mut self) -> String {
         const SIMPLE: [&str; 18] = [
-            "try_receive", "ready_receive", "ready_send", "connected", "present", "ier", "isr", "lcr", "mcr",
-            "lsr", "lsr", "msr", "msr", "spr", "dll_dlm", "config", "fifo", "dump",
+            "try_receive",
+            "ready_receive",
+            "ready_send",
+            "connected",
+            "present",
+            "ier",
+            "isr",
+            "lcr",
+            "mcr",
+            "lsr",
+            "lsr",
+            "msr",
+            "msr",
+            "spr",
+            "dll_dlm",
+            "config",
+            "fifo",
+            "dump",
         ];
         let size = self.size();
         let value = self.random.byte();
@@ -147,10 +168,34 @@ impl Cases {
     /// Every call once, `init` and the loopback test last.
     pub fn every_call(&mut self) -> Vec<String> {
         let mut calls: Vec<String> = [
-            "config", "fifo", "ready_receive", "ready_send", "try_receive", "try_send 55", "receive 3",
-            "send 010203", "lsr", "connected", "msr", "receive_exact 2 ~8", "send_exact 0A0B0C ~8",
-            "enable 05", "config", "disable 04", "ier", "isr", "lcr", "mcr", "lsr", "msr", "spr", "dll_dlm",
-            "dump", "present", "raw_read 3", "raw_write 7 5A",
+            "config",
+            "fifo",
+            "ready_receive",
+            "ready_send",
+            "try_receive",
+            "try_send 55",
+            "receive 3",
+            "send 010203",
+            "lsr",
+            "connected",
+            "msr",
+            "receive_exact 2 ~8",
+            "send_exact 0A0B0C ~8",
+            "enable 05",
+            "config",
+            "disable 04",
+            "ier",
+            "isr",
+            "lcr",
+            "mcr",
+            "lsr",
+            "msr",
+            "spr",
+            "dll_dlm",
+            "dump",
+            "present",
+            "raw_read 3",
+            "raw_write 7 5A",
         ]
         .map(String::from)
         .to_vec();
@@ -206,8 +251,7 @@ fn random_lists(cases: &mut Cases) {
 
 /// Lists of random calls over random bytes: any, and such as status registers often show.
 fn random_bytes(cases: &mut Cases) {
-    const USUAL: [u8; 12] =
-        [0x00, 0x01, 0x20, 0x21, 0x60, 0x60, 0x61, 0x61, 0x63, 0xC1, 0xE1, 0x73];
+    const USUAL: [u8; 12] = [0x00, 0x01, 0x20, 0x21, 0x60, 0x60, 0x61, 0x61, 0x63, 0xC1, 0xE1, 0x73];
     for round in 0..150 {
         let number = cases.random.below(60) as usize;
         let bytes: Vec<u8> = if round % 2 == 0 {
@@ -234,8 +278,8 @@ fn random_bytes(cases: &mut Cases) {
 
 pub fn generate() -> String {
     let mut cases = Cases { random: Random::new(16550), text: String::new() };
-    edges::facts(&mut cases);
-    edges::calculations(&mut cases);
+    facts::facts(&mut cases);
+    facts::calculations(&mut cases);
     edges::calls(&mut cases);
     random_lists(&mut cases);
     random_bytes(&mut cases);

@@ -7,6 +7,7 @@
 mod chip;
 mod device;
 mod edges;
+mod facts;
 mod generate;
 mod play;
 mod pure;

@@ -7,9 +7,7 @@ use std::panic::{AssertUnwindSafe, catch_unwind, resume_unwind};
 use uart_16550::backend::Backend;
 use uart_16550::spec::registers::IER;
 use uart_16550::spec::{InvalidDivisorError, calc_divisor};
-use uart_16550::{
-    ByteReceiveError, ByteSendError, InitError, LoopbackError, RemoteReadyToReceiveError, Uart16550,
-};
+use uart_16550::{ByteReceiveError, ByteSendError, InitError, LoopbackError, RemoteReadyToReceiveError, Uart16550};
 
 /// What the places of a receive hold before it.
 pub const PATTERN: u8 = 0xA5;
@@ -34,12 +32,9 @@ impl Outcome {
 
 pub fn divisor_refusal(error: InvalidDivisorError) -> String {
     match error {
-        InvalidDivisorError::NonInteger(e) => format!(
-            "no 6 {} {} {}",
-            e.frequency,
-            e.baud_rate,
-            optional_text(e.prescaler_division_factor)
-        ),
+        InvalidDivisorError::NonInteger(e) => {
+            format!("no 6 {} {} {}", e.frequency, e.baud_rate, optional_text(e.prescaler_division_factor))
+        }
         InvalidDivisorError::OutOfRange { divisor } => format!("no 7 {divisor}"),
         _ => wrong("an unknown divisor error"),
     }
@@ -95,12 +90,7 @@ impl Player {
     }
 
     /// Runs a call that may wait. Answers nothing where its budget was used up.
-    fn wait<T>(
-        &mut self,
-        call: Waiting,
-        budget: u16,
-        run: impl FnOnce(&mut Uart16550<Device>) -> T,
-    ) -> Option<T> {
+    fn wait<T>(&mut self, call: Waiting, budget: u16, run: impl FnOnce(&mut Uart16550<Device>) -> T) -> Option<T> {
         let mask = ((1_u16 << self.uart.config().data_bits.to_integer()) - 1) as u8;
         self.uart.backend_mut().watch = Watch::new(call, budget, mask);
         let answer = match catch_unwind(AssertUnwindSafe(|| run(&mut self.uart))) {
@@ -127,11 +117,8 @@ impl Player {
         let answer = match (words[0], &words[1..]) {
             ("init", rest) if rest.len() == 10 => {
                 let config = config(&rest[..9]);
-                let rule = divisor_rule(
-                    config.frequency,
-                    config.baud_rate.to_integer(),
-                    config.prescaler_division_factor,
-                );
+                let rule =
+                    divisor_rule(config.frequency, config.baud_rate.to_integer(), config.prescaler_division_factor);
                 let answer = if let Some(refused) = rule {
                     marks = refused.marks;
                     refused.answer
@@ -156,9 +143,7 @@ impl Player {
             ("send", [bytes]) => format!("ok {}", uart.send_bytes(&unhex(bytes))),
             ("receive_exact", [places, budget]) => {
                 let mut buffer = vec![PATTERN; number(places)];
-                let done = self.wait(Waiting::Receive, number(budget), |uart| {
-                    uart.receive_bytes_exact(&mut buffer)
-                });
+                let done = self.wait(Waiting::Receive, number(budget), |uart| uart.receive_bytes_exact(&mut buffer));
                 let (head, polls) = self.exact(done);
                 let moved = self.moved(|access| matches!(access, Access::Read(0, _)));
                 fruitless = Some(polls);
@@ -370,11 +355,7 @@ impl Player {
 /// What the compared functions themselves answer to an `init` line that carries a mark for its values.
 pub fn told_init(words: &[&str]) -> String {
     let config = config(&words[1..10]);
-    match calc_divisor(
-        config.frequency,
-        config.baud_rate.to_integer(),
-        config.prescaler_division_factor,
-    ) {
+    match calc_divisor(config.frequency, config.baud_rate.to_integer(), config.prescaler_division_factor) {
         Ok(divisor) => format!("goes on with divisor {divisor}"),
         Err(e) => divisor_refusal(e),
     }

@@ -12,12 +12,7 @@ use uart_16550::spec::*;
 use uart_16550::{BaudRate, Config, ConfigRegisterDump, InvalidAddressError, Uart16550};
 
 fn rate_refusal(error: NonIntegerBaudRateError) -> String {
-    format!(
-        "no 19 {} {} {}",
-        error.frequency,
-        error.divisor,
-        optional_text(error.prescaler_division_factor)
-    )
+    format!("no 19 {} {} {}", error.frequency, error.divisor, optional_text(error.prescaler_division_factor))
 }
 
 fn address_refusal(error: InvalidAddressError) -> String {
@@ -141,8 +136,7 @@ pub fn pure(words: &[&str], told: bool) -> Option<Outcome> {
         ("dump_rate", [dll, dlm, f, p]) => {
             let dump = ConfigRegisterDump { dll: byte(dll), dlm: byte(dlm), ..Default::default() };
             let (frequency, prescaler) = (number(f), optional(p));
-            let config =
-                Config { frequency, prescaler_division_factor: prescaler, ..Config::DEFAULT };
+            let config = Config { frequency, prescaler_division_factor: prescaler, ..Config::DEFAULT };
             let answer = catch_unwind(|| rate_text(dump.baud_rate(&config)));
             if told {
                 return Some(Outcome::plain(answer.map_or("panics".into(), |rate| format!("ok {rate}"))));
@@ -174,9 +168,7 @@ pub fn pure(words: &[&str], told: bool) -> Option<Outcome> {
         }
         ("level_from_raw", [bits]) => ok(level_text(FifoTriggerLevel::from_raw_bits(byte(bits))).into()),
         ("level_to_raw", [word]) => ok(format!("{:02X}", level(word).to_raw_bits())),
-        ("fcr_level", [bits]) => {
-            ok(level_text(FCR::from_bits_retain(byte(bits)).fifo_trigger_level()).into())
-        }
+        ("fcr_level", [bits]) => ok(level_text(FCR::from_bits_retain(byte(bits)).fifo_trigger_level()).into()),
         ("fcr_set_level", [bits, word]) => {
             let fcr = FCR::from_bits_retain(byte(bits)).set_fifo_trigger_level(level(word));
             ok(format!("{:02X}", fcr.bits()))
