@@ -76,11 +76,11 @@ all-listed d h =
     ⊎-elim
     (λ small. found-listed d names (and-parts _ _ (at-factor d small (no-remainder d (h .rate) (h .least) (h .equation))) .0))
     (λ large.
-      let few : h .rate < 340 = ⊎-elim (λ l. l) (λ g. absurd (omega (arith, h .equation, mul-le 340 340 (h .rate) d g large))) (cases-lt (h .rate) 340) in
-      let some : 0 < h .rate = ⊎-elim (λ l. l) (λ g. absurd (omega (arith, h .equation, mul-le (h .rate) d 0 d g (omega arith)))) (cases-lt 0 (h .rate)) in
-      let other : 115200 / h .rate ≡ d = div-eq-of-eq-mul-right some (sym (h .equation)) in
-      let e = and-parts (found (h .rate) names) (ltb 65535 (115200 / h .rate) || found (115200 / h .rate) names) (at-factor (h .rate) few (no-remainder (h .rate) d some (mul-comm d (h .rate) ∙ h .equation))) .1 in
-      ⊎-elim (λ l. absurd (omega (arith, ltb-true 65535 (115200 / h .rate) l, other, h .most))) (λ f. found-listed d names (subst (λ n. found n names ≡ true) other f)) (or-cases (ltb 65535 (115200 / h .rate)) (found (115200 / h .rate) names) e))
+    let few : h .rate < 340 = ⊎-elim (λ l. l) (λ g. absurd (omega (arith, h .equation, mul-le 340 340 (h .rate) d g large))) (cases-lt (h .rate) 340) in
+    let some : 0 < h .rate = ⊎-elim (λ l. l) (λ g. absurd (omega (arith, h .equation, mul-le (h .rate) d 0 d g (omega arith)))) (cases-lt 0 (h .rate)) in
+    let other : 115200 / h .rate ≡ d = div-eq-of-eq-mul-right some (sym (h .equation)) in
+    let e = and-parts (found (h .rate) names) (ltb 65535 (115200 / h .rate) || found (115200 / h .rate) names) (at-factor (h .rate) few (no-remainder (h .rate) d some (mul-comm d (h .rate) ∙ h .equation))) .1 in
+    ⊎-elim (λ l. absurd (omega (arith, ltb-true 65535 (115200 / h .rate) l, other, h .most))) (λ f. found-listed d names (subst (λ n. found n names ≡ true) other f)) (or-cases (ltb 65535 (115200 / h .rate)) (found (115200 / h .rate) names) e))
     (cases-lt d 340)
 
 -- a name's number leaves no remainder, and fits two bytes

@@ -28,8 +28,8 @@ cleared p w v h hv =
     ap₂ bitAnd (sym (shr-split v (w + p))) (all-but p w h)
     ∙ and-block (w + p) (v / 2 ^ (w + p)) (2 ^ (8 - (w + p)) - 1) (v % 2 ^ (w + p)) (2 ^ p - 1) (mod-below v (2 ^ (w + p)) (pow-pos (w + p))) ones
     ∙ ap₂ (λ a b. a * 2 ^ (w + p) + b)
-      (and-mask (v / 2 ^ (w + p)) (8 - (w + p)) ∙ mod-eq-of-lt up)
-      (and-mask (v % 2 ^ (w + p)) p ∙ ap (λ n. n % 2 ^ p) (mod-pow-add v w p) ∙ mod-low (v / 2 ^ p % 2 ^ w) p (v % 2 ^ p) (mod-below v (2 ^ p) (pow-pos p)))
+    (and-mask (v / 2 ^ (w + p)) (8 - (w + p)) ∙ mod-eq-of-lt up)
+    (and-mask (v % 2 ^ (w + p)) p ∙ ap (λ n. n % 2 ^ p) (mod-pow-add v w p) ∙ mod-low (v / 2 ^ p % 2 ^ w) p (v % 2 ^ p) (mod-below v (2 ^ p) (pow-pos p)))
 
 -- the value goes between the bits above and those below
 placed : (p w x high low : ℕ) → x < 2 ^ w → low < 2 ^ p → bitOr (high * 2 ^ (w + p) + low) (x * 2 ^ p) ≡ high * 2 ^ (w + p) + (x * 2 ^ p + low)
@@ -50,8 +50,8 @@ parts p w x v r hx e =
       value = ap (λ n. n / 2 ^ p % 2 ^ w) f ∙ ap (λ n. n % 2 ^ w) (shr-high (high * 2 ^ w + x) p low hl) ∙ mod-low high w x hx;
       below = ap (λ n. n % 2 ^ p) f ∙ mod-low (high * 2 ^ w + x) p low hl;
       above =
-        let s : x * 2 ^ p + low < 2 ^ (w + p) = omega (arith, pow-add 2 w p, mul-le (x + 1) (2 ^ p) (2 ^ w) (2 ^ p) (omega arith) (omega arith), add-mul x 1 (2 ^ p)) in
-        subst (λ n. r / 2 ^ n ≡ v / 2 ^ n) (add-comm w p) (ap (λ n. n / 2 ^ (w + p)) e ∙ shr-high high (w + p) (x * 2 ^ p + low) s);
+          let s : x * 2 ^ p + low < 2 ^ (w + p) = omega (arith, pow-add 2 w p, mul-le (x + 1) (2 ^ p) (2 ^ w) (2 ^ p) (omega arith) (omega arith), add-mul x 1 (2 ^ p)) in
+          subst (λ n. r / 2 ^ n ≡ v / 2 ^ n) (add-comm w p) (ap (λ n. n / 2 ^ (w + p)) e ∙ shr-high high (w + p) (x * 2 ^ p + low) s);
     }
 
 -- clearing a field and putting a value there sets it

@@ -15,6 +15,8 @@ use crate::error::NonIntegerDivisorError;
 
 /// The usual clock of a 16550, 1.8432 MHz.
 pub const CLK_FREQUENCY_HZ: u32 = 1_843_200;
+/// The largest divisor that its two bytes hold.
+pub const MAX_DIVISOR: u32 = 65_535;
 
 /// The prescaler as the formula has it: 0 where there is none.
 fn prescale(prescaler_division_factor: Option<u32>) -> u32
@@ -73,7 +75,7 @@ pub fn calc_divisor(
             prescaler_division_factor,
         }));
     };
-    if divisor > 65_535 {
+    if divisor > MAX_DIVISOR {
         return Err(InvalidDivisorError::OutOfRange { divisor });
     }
     Ok(divisor as u16)
@@ -113,11 +115,7 @@ pub fn calc_baud_rate(
 }
 
 /// The frequency of a rate and a divisor, by the formula, whatever their size.
-pub fn calc_frequency(
-    baud_rate: u32,
-    divisor: u32,
-    prescaler_division_factor: Option<u32>,
-) -> u128
+pub fn calc_frequency(baud_rate: u32, divisor: u32, prescaler_division_factor: Option<u32>) -> u128
     ensures { λ r. ⌜ r ≡ 16 * (prescaled «prescaler_division_factor» + 1) * «baud_rate» * divisor ⌝ }
 {
     let prescaler = u128::from(prescale(prescaler_division_factor));
@@ -134,6 +132,8 @@ pub fn worked_examples() -> u8
 #[cfg(test)]
 mod tests {
     use super::*;
+    use crate::error::InvalidDivisorErrorDebug;
+    use crate::error::InvalidDivisorErrorPartialEq;
     use std::test::*;
 
     #[test]
@@ -154,6 +154,9 @@ mod tests {
         let too_large = InvalidDivisorError::OutOfRange { divisor: 115_200 };
         check_eq(calc_divisor(CLK_FREQUENCY_HZ, 1, None), Err(too_large))?;
         let prescaler = InvalidDivisorError::InvalidPrescaler;
-        check_eq(calc_divisor(CLK_FREQUENCY_HZ, 7_200, Some(16)), Err(prescaler))
+        check_eq(
+            calc_divisor(CLK_FREQUENCY_HZ, 7_200, Some(16)),
+            Err(prescaler),
+        )
     }
 }

@@ -14,8 +14,8 @@ told : (old new j : ℕ)
 told old new j =
     bit-or j _ _
     ∙ ap₂ max
-      (bit-and j _ _ ∙ ap (λ n. min n (bit j 11)) (bit-shr 4 j (bitXor old new) ∙ bit-xor (4 + j) old new))
-      (bit-and j _ _ ∙ ap (λ n. min n (bit j 4)) (bit-shr 4 j (bitAnd old (255 - new)) ∙ bit-and (4 + j) old (255 - new)))
+    (bit-and j _ _ ∙ ap (λ n. min n (bit j 11)) (bit-shr 4 j (bitXor old new) ∙ bit-xor (4 + j) old new))
+    (bit-and j _ _ ∙ ap (λ n. min n (bit j 4)) (bit-shr 4 j (bitAnd old (255 - new)) ∙ bit-and (4 + j) old (255 - new)))
 
 either : (k old new : ℕ) → changed k old new ≤ 1
 either k old new = subst (λ n. n ≤ 1) (bit-xor k old new) (bit-le k (bitXor old new))
