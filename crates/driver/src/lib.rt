@@ -3,6 +3,7 @@
 mod budget;
 mod getters;
 mod receive;
+mod saved;
 mod send;
 mod setup;
 mod status;
