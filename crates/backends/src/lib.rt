@@ -41,4 +41,4 @@ pub use script::ScriptBackend;
 pub use space::Space;
 pub use window::Window;
 pub use window::WindowSpace;
-pub use worked::worked_addresses;
+pub use worked::worked_examples;
