@@ -1,0 +1,41 @@
+//! Hexadecimal: two capital digits to a byte.
+
+use crate::fault::Fault;
+use crate::fault::FaultFromAlloc;
+use crate::fault::FaultFromRefused;
+use std::alloc::Global;
+
+/// The value of a digit.
+fn digit(letter: u8) -> Option<u8> {
+    match letter {
+        b'0'..=b'9' => Some(letter - b'0'),
+        b'A'..=b'F' => Some(letter - b'A' + 10),
+        _ => None,
+    }
+}
+
+/// The byte that two digits write.
+pub fn byte_of(high: u8, low: u8) -> Option<u8> {
+    match (digit(high), digit(low)) {
+        (Some(high), Some(low)) => Some(high * 16 + low),
+        _ => None,
+    }
+}
+
+/// The bytes that a word writes: two digits each, or `-` for none.
+pub fn bytes_of(heap: Global, word: &[u8]) -> Result<Vec<u8>, Fault> {
+    let mut bytes = Vec::new(heap);
+    if word == b"-" {
+        return Ok(bytes);
+    }
+    if word.is_empty() || word.len() % 2 != 0 {
+        return Err(Fault::Malformed);
+    }
+    for place in 0..word.len() / 2 {
+        match byte_of(word[2 * place], word[2 * place + 1]) {
+            Some(byte) => bytes.push(byte)?,
+            None => return Err(Fault::Malformed),
+        }
+    }
+    Ok(bytes)
+}
