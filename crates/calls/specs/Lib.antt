@@ -1,2 +1,3 @@
 pub mod Transcript
 pub mod Landing
+pub mod Hex

@@ -1,21 +1,34 @@
 //! Hexadecimal: two capital digits to a byte.
 
+ghost use Prim.Native.Nat.{ℕ};
+ghost use Rattle.calls.specs.Hex.{Digit, Writes};
+ghost use Rattle.std.specs.declared.option.Option.the-variants.{Some, None};
 use crate::fault::Fault;
 use crate::fault::FaultFromAlloc;
 use crate::fault::FaultFromRefused;
 use std::alloc::Global;
 
-/// The value of a digit.
-fn digit(letter: u8) -> Option<u8> {
-    match letter {
-        b'0'..=b'9' => Some(letter - b'0'),
-        b'A'..=b'F' => Some(letter - b'A' + 10),
+/// The value of a digit, where the character is one.
+fn digit(character: u8) -> Option<u8>
+    ensures { λ r. ⌜ elim r [
+      | Some n ↦ Digit character n
+      | None ↦ ((n : ℕ) → Digit character n → ⊥)
+    ] ⌝ }
+{
+    match character {
+        b'0'..=b'9' => Some(character - b'0'),
+        b'A'..=b'F' => Some(character - b'A' + 10),
         _ => None,
     }
 }
 
 /// The byte that two digits write.
-pub fn byte_of(high: u8, low: u8) -> Option<u8> {
+pub fn byte_of(high: u8, low: u8) -> Option<u8>
+    ensures { λ r. ⌜ elim r [
+      | Some b ↦ Writes high low b
+      | None ↦ ((b : ℕ) → Writes high low b → ⊥)
+    ] ⌝ }
+{
     match (digit(high), digit(low)) {
         (Some(high), Some(low)) => Some(high * 16 + low),
         _ => None,

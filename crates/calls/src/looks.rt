@@ -12,7 +12,12 @@ use backends::ScriptBackend;
 use std::fmt::Write;
 
 /// Plays one of these calls.
-pub fn answer(device: &mut Device<'_>, name: &str, words: &mut Words<'_>, out: &mut String) -> Result<(), Fault> {
+pub fn answer(
+    device: &mut Device<'_>,
+    name: &str,
+    words: &mut Words<'_>,
+    out: &mut String,
+) -> Result<(), Fault> {
     match name {
         "dll_dlm" => dll_dlm(device, words, out),
         "dump" => dump(device, words, out),
@@ -25,7 +30,12 @@ pub fn answer(device: &mut Device<'_>, name: &str, words: &mut Words<'_>, out: &
 }
 
 /// A getter of one register.
-fn getter(device: &mut Device<'_>, name: &str, words: &mut Words<'_>, out: &mut String) -> Result<(), Fault> {
+fn getter(
+    device: &mut Device<'_>,
+    name: &str,
+    words: &mut Words<'_>,
+    out: &mut String,
+) -> Result<(), Fault> {
     words.end()?;
     let value = match name {
         "ier" => device.ier(),
@@ -51,7 +61,17 @@ fn dll_dlm(device: &mut Device<'_>, words: &mut Words<'_>, out: &mut String) -> 
 fn dump(device: &mut Device<'_>, words: &mut Words<'_>, out: &mut String) -> Result<(), Fault> {
     words.end()?;
     let d = device.config_register_dump();
-    let bytes = [d.ier, d.isr, d.lcr, d.mcr, d.lsr, d.msr, d.spr, d.dll, d.dlm];
+    let bytes = [
+        d.ier,
+        d.isr,
+        d.lcr,
+        d.mcr,
+        d.lsr,
+        d.msr,
+        d.spr,
+        d.dll,
+        d.dlm,
+    ];
     let held = Hex(&bytes);
     write!(out, "ok {held}")?;
     Ok(())
@@ -83,7 +103,11 @@ fn raw_read(device: &mut Device<'_>, words: &mut Words<'_>, out: &mut String) ->
 }
 
 /// A write past the driver.
-fn raw_write(device: &mut Device<'_>, words: &mut Words<'_>, out: &mut String) -> Result<(), Fault> {
+fn raw_write(
+    device: &mut Device<'_>,
+    words: &mut Words<'_>,
+    out: &mut String,
+) -> Result<(), Fault> {
     let offset = words.u8()?;
     let value = words.byte()?;
     words.end()?;

@@ -131,7 +131,10 @@ fn after(device: &Device<'_>, out: &mut String) -> Result<(), Fault> {
     let interrupts = device.config().interrupts;
     let fifo = u8::from(device.fifo_enabled());
     let accesses = Accesses(device.backend().recorded());
-    write!(out, " | {line:02X} {modem:02X} {interrupts:02X} {fifo} |{accesses}")?;
+    write!(
+        out,
+        " | {line:02X} {modem:02X} {interrupts:02X} {fifo} |{accesses}"
+    )?;
     let more = device.backend().left_out();
     if more > 0 {
         write!(out, " and {more} more")?;

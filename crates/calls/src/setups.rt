@@ -12,7 +12,12 @@ use backends::ScriptBackend;
 use std::fmt::Write;
 
 /// Plays one of these calls.
-pub fn answer(device: &mut Device<'_>, name: &str, words: &mut Words<'_>, out: &mut String) -> Result<(), Fault> {
+pub fn answer(
+    device: &mut Device<'_>,
+    name: &str,
+    words: &mut Words<'_>,
+    out: &mut String,
+) -> Result<(), Fault> {
     match name {
         "init" => init(device, words, out),
         "present" => present(device, words, out),
@@ -44,7 +49,11 @@ fn present(device: &mut Device<'_>, words: &mut Words<'_>, out: &mut String) -> 
     Ok(())
 }
 
-fn connected(device: &mut Device<'_>, words: &mut Words<'_>, out: &mut String) -> Result<(), Fault> {
+fn connected(
+    device: &mut Device<'_>,
+    words: &mut Words<'_>,
+    out: &mut String,
+) -> Result<(), Fault> {
     words.end()?;
     match device.check_connected() {
         Ok(()) => out.write_str("ok")?,

@@ -21,7 +21,9 @@ pub struct Table {
 
 impl Table {
     /// An empty table.
-    fn new() -> Table {
+    fn new() -> Table
+        ensures { λ r. ⌜ r .count ≡ 0 ⌝ }
+    {
         Table {
             entries: [Access {
                 kind: Kind::Read,

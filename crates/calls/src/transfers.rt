@@ -39,7 +39,12 @@ pub fn answer(
     }
 }
 
-fn receive(heap: Global, device: &mut Device<'_>, words: &mut Words<'_>, out: &mut String) -> Result<(), Fault> {
+fn receive(
+    heap: Global,
+    device: &mut Device<'_>,
+    words: &mut Words<'_>,
+    out: &mut String,
+) -> Result<(), Fault> {
     let places = words.u16()?;
     words.end()?;
     let mut buffer = vec![in heap; UNTOUCHED; usize::from(places)]?;
@@ -49,7 +54,12 @@ fn receive(heap: Global, device: &mut Device<'_>, words: &mut Words<'_>, out: &m
     Ok(())
 }
 
-fn receive_exact(heap: Global, device: &mut Device<'_>, words: &mut Words<'_>, out: &mut String) -> Result<(), Fault> {
+fn receive_exact(
+    heap: Global,
+    device: &mut Device<'_>,
+    words: &mut Words<'_>,
+    out: &mut String,
+) -> Result<(), Fault> {
     let places = words.u16()?;
     let budget = words.u16()?;
     words.end()?;
@@ -61,7 +71,12 @@ fn receive_exact(heap: Global, device: &mut Device<'_>, words: &mut Words<'_>, o
     Ok(())
 }
 
-fn send(heap: Global, device: &mut Device<'_>, words: &mut Words<'_>, out: &mut String) -> Result<(), Fault> {
+fn send(
+    heap: Global,
+    device: &mut Device<'_>,
+    words: &mut Words<'_>,
+    out: &mut String,
+) -> Result<(), Fault> {
     let bytes = words.bytes(heap)?;
     words.end()?;
     let count = device.send_bytes(&bytes);
@@ -69,7 +84,12 @@ fn send(heap: Global, device: &mut Device<'_>, words: &mut Words<'_>, out: &mut 
     Ok(())
 }
 
-fn send_exact(heap: Global, device: &mut Device<'_>, words: &mut Words<'_>, out: &mut String) -> Result<(), Fault> {
+fn send_exact(
+    heap: Global,
+    device: &mut Device<'_>,
+    words: &mut Words<'_>,
+    out: &mut String,
+) -> Result<(), Fault> {
     let bytes = words.bytes(heap)?;
     let budget = words.u16()?;
     words.end()?;
@@ -88,7 +108,11 @@ fn tell(transferred: Transferred, out: &mut String) -> Result<(), Fault> {
     Ok(())
 }
 
-fn try_receive(device: &mut Device<'_>, words: &mut Words<'_>, out: &mut String) -> Result<(), Fault> {
+fn try_receive(
+    device: &mut Device<'_>,
+    words: &mut Words<'_>,
+    out: &mut String,
+) -> Result<(), Fault> {
     words.end()?;
     match device.try_receive_byte() {
         Ok(byte) => write!(out, "ok {byte:02X}")?,
@@ -107,7 +131,11 @@ fn try_send(device: &mut Device<'_>, words: &mut Words<'_>, out: &mut String) ->
     Ok(())
 }
 
-fn ready_receive(device: &mut Device<'_>, words: &mut Words<'_>, out: &mut String) -> Result<(), Fault> {
+fn ready_receive(
+    device: &mut Device<'_>,
+    words: &mut Words<'_>,
+    out: &mut String,
+) -> Result<(), Fault> {
     words.end()?;
     match device.ready_to_receive() {
         Ok(()) => out.write_str("ok")?,
@@ -116,7 +144,11 @@ fn ready_receive(device: &mut Device<'_>, words: &mut Words<'_>, out: &mut Strin
     Ok(())
 }
 
-fn ready_send(device: &mut Device<'_>, words: &mut Words<'_>, out: &mut String) -> Result<(), Fault> {
+fn ready_send(
+    device: &mut Device<'_>,
+    words: &mut Words<'_>,
+    out: &mut String,
+) -> Result<(), Fault> {
     words.end()?;
     match device.ready_to_send() {
         Ok(()) => out.write_str("ok")?,

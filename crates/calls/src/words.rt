@@ -21,7 +21,9 @@ pub struct Words<'a> {
 impl<'a> Words<'a> {
     /// The words of a line, parted by single spaces.
     pub fn new(line: &'a str) -> Words<'a> {
-        Words { rest: line.split(' ') }
+        Words {
+            rest: line.split(' '),
+        }
     }
 
     /// The next word.
