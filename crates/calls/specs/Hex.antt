@@ -1,15 +1,16 @@
--- Hexadecimal: the letters that write a byte.
-use Prim.Native.Nat.{ℕ, _+_, _*_, _<_, _/_, _%_}
+-- Hexadecimal: the letters that write a byte, and the words that write bytes.
+use Prim.Native.Nat.{ℕ, _+_, _*_, _<_}
 use mathlib.Core.Bool.{cond}
 use mathlib.Core.List.{List, [], _∷_}
 use mathlib.Core.Path.{_≡_}
 use lib.Dec.{ltb}
+use lib.ListN.{length, getD}
 
 -- the letter of a digit: 0 to 9, then A to F
 abbrev pub letter : ℕ → ℕ
 letter n = cond (ltb n 10) (48 + n) (55 + n)
 
--- a digit with this letter
+-- the character is the letter of this digit
 pub record Digit (c n : ℕ) : Type 0 where
   pub small : n < 16
   pub written : letter n ≡ c
@@ -18,7 +19,13 @@ pub record Digit (c n : ℕ) : Type 0 where
 abbrev pub Writes : ℕ → ℕ → ℕ → Type 0
 Writes high low b = (h : ℕ) × (l : ℕ) × (Digit high h × Digit low l × (b ≡ h * 16 + l))
 
--- the letters that write these bytes
-abbrev pub written : List ℕ → List ℕ
-written [] = []
-written (b ∷ bs) = letter (b / 16) ∷ letter (b % 16) ∷ written bs
+-- the word writes these bytes, two letters each
+pub record Spells (word bytes : List ℕ) : Type 0 where
+  pub some : 0 < length bytes
+  pub lengths : length word ≡ 2 * length bytes
+  pub places : (i : ℕ) → i < length bytes → Writes (getD word (2 * i) 0) (getD word (2 * i + 1) 0) (getD bytes i 0)
+
+-- what a word means: bytes, or a dash for none of them
+pub data Means (word : List ℕ) : List ℕ → Type 0 where
+  none : word ≡ 45 ∷ [] → Means word []
+  these : (bytes : List ℕ) → Spells word bytes → Means word bytes

@@ -1,5 +1,7 @@
 //! Why a line has no answer.
 
+ghost use Rattle.calls.specs.declared.fault.Fault.the-variants.{Memory};
+ghost use mathlib.Core.Path.{_≡_};
 use std::alloc::AllocError;
 use std::alloc::Refused;
 use std::error::Error;
@@ -29,18 +31,24 @@ pub impl fmt::Display for Fault as FaultDisplay {
 pub impl Error for Fault as FaultError {}
 
 pub impl From<AllocError> for Fault as FaultFromAlloc {
+    ghost converts = { λ _ r. r ≡ Memory };
+
     fn from(_e: AllocError) -> Fault {
         Fault::Memory
     }
 }
 
 pub impl<T: Drop> From<Refused<T>> for Fault as FaultFromRefused {
+    ghost converts = { λ _ r. r ≡ Memory };
+
     fn from(_e: Refused<T>) -> Fault {
         Fault::Memory
     }
 }
 
 pub impl From<fmt::Error> for Fault as FaultFromFmt {
+    ghost converts = { λ _ r. r ≡ Memory };
+
     fn from(_e: fmt::Error) -> Fault {
         Fault::Memory
     }

@@ -1,7 +1,9 @@
 //! Hexadecimal: two capital digits to a byte.
 
 ghost use Prim.Native.Nat.{ℕ};
-ghost use Rattle.calls.specs.Hex.{Digit, Writes};
+ghost use Rattle.calls.specs.Hex.{Digit, Writes, Means};
+ghost use Rattle.std.specs.Of.Vec.{vec-items};
+ghost use Rattle.std.specs.Vec.{made};
 ghost use Rattle.std.specs.declared.option.Option.the-variants.{Some, None};
 use crate::fault::Fault;
 use crate::fault::FaultFromAlloc;
@@ -36,7 +38,9 @@ pub fn byte_of(high: u8, low: u8) -> Option<u8>
 }
 
 /// The bytes that a word writes: two digits each, or `-` for none.
-pub fn bytes_of(heap: Global, word: &[u8]) -> Result<Vec<u8>, Fault> {
+pub fn bytes_of(heap: Global, word: &[u8]) -> Result<Vec<u8>, Fault>
+    ensures { λ r. ⌜ made r (λ v. Means (now (word .entry)) (vec-items v)) ⌝ }
+{
     let mut bytes = Vec::new(heap);
     if word == b"-" {
         return Ok(bytes);
