@@ -5,3 +5,5 @@ pub mod Tries
 pub mod Filling
 pub mod Sending
 pub mod Attempting
+pub mod Looping
+pub mod LoopTest

@@ -3,3 +3,4 @@ pub mod Traces
 pub mod Receives
 pub mod Sends
 pub mod Getters
+pub mod Loopback

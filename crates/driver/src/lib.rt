@@ -2,6 +2,7 @@
 
 mod budget;
 mod getters;
+mod loopback;
 mod receive;
 mod saved;
 mod send;

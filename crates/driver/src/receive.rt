@@ -82,7 +82,7 @@ impl<B: Backend> Uart16550<B> {
     }
 
     /// Waits for one character.
-    fn receive_waiting(&mut self, budget: &mut Budget, wait: Wait) -> Result<u8, BudgetError>
+    pub(crate) fn receive_waiting(&mut self, budget: &mut Budget, wait: Wait) -> Result<u8, BudgetError>
         requires { ⌜ now budget .fruitless ≤ now budget .limit ⌝ }
         ensures limit { λ _. ⌜ now (budget .exit) .limit ≡ now (budget .entry) .limit ⌝ }
         ensures waited { λ r. ⌜ ((ts : List Try) × Waits·for (now (budget .entry) .limit - now (budget .entry) .fruitless) wait (verdict budget-refusal r) ts (got-by r)
