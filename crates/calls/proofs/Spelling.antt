@@ -21,9 +21,9 @@ At w j x = Writes (getD w (2 * j) 0) (getD w (2 * j + 1) 0) x
 places-more : (w bs : List ℕ) (i b : ℕ) → Sofar w i bs → At w i b → (j : ℕ) → j < i + 1 → At w j (getD (bs ++ b ∷ []) j 0)
 places-more w bs i b s t j l =
     ⊎-elim
-      (λ below. subst (At w j) (sym (getD-append-left bs (b ∷ []) 0 j (omega (arith, s .0)))) (s .1 j below))
-      (λ above. let same : i ≡ j = omega arith in subst (At w j) (sym (getD-push bs b 0 j (s .0 ∙ same))) (subst (λ k. At w k b) same t))
-      (cases-lt j i)
+    (λ below. subst (At w j) (sym (getD-append-left bs (b ∷ []) 0 j (omega (arith, s .0)))) (s .1 j below))
+    (λ above. let same : i ≡ j = omega arith in subst (At w j) (sym (getD-push bs b 0 j (s .0 ∙ same))) (subst (λ k. At w k b) same t))
+    (cases-lt j i)
 
 -- one byte more
 pub sofar-more : (w bs : List ℕ) (i b : ℕ) → Sofar w i bs → At w i b → Sofar w (i + 1) (bs ++ b ∷ [])

@@ -4,9 +4,12 @@ use crate::calls::Device;
 use crate::fault::Fault;
 use crate::fault::FaultFromFmt;
 use crate::refusals;
+use crate::show::Hex;
+use crate::show::HexDisplay;
 use crate::show::Setup;
 use crate::show::SetupDisplay;
 use crate::transcript::TranscriptBackend;
+use crate::transfers::UNTOUCHED;
 use crate::words::Words;
 use backends::ScriptBackend;
 use std::fmt::Write;
@@ -22,6 +25,7 @@ pub fn answer(
         "init" => init(device, words, out),
         "present" => present(device, words, out),
         "connected" => connected(device, words, out),
+        "loopback" => loopback(device, words, out),
         "config" => config(device, words, out),
         "fifo" => fifo(device, words, out),
         _ => Err(Fault::Unknown),
@@ -59,6 +63,21 @@ fn connected(
         Ok(()) => out.write_str("ok")?,
         Err(e) => refusals::remote(e, out)?,
     }
+    Ok(())
+}
+
+fn loopback(device: &mut Device<'_>, words: &mut Words<'_>, out: &mut String) -> Result<(), Fault> {
+    let budget = words.u16()?;
+    words.end()?;
+    let mut place = [UNTOUCHED; 16];
+    let waited = device.test_loopback(&mut place, budget);
+    match waited.result {
+        Ok(()) => out.write_str("ok")?,
+        Err(e) => refusals::loopback(e, out)?,
+    }
+    let fruitless = waited.fruitless;
+    let held = Hex(&place);
+    write!(out, " fruitless {fruitless} {held}")?;
     Ok(())
 }
 

@@ -16,7 +16,7 @@ use std::alloc::Global;
 use std::fmt::Write;
 
 /// What each place of a buffer holds before a receive.
-const UNTOUCHED: u8 = 0xA5;
+pub const UNTOUCHED: u8 = 0xA5;
 
 /// Plays one of these calls.
 pub fn answer(

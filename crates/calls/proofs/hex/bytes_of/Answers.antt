@@ -17,6 +17,6 @@ loop-place-again c =
     subst (Sofar _ _) (sym pushed) (sofar-more _ _ _ _ (c .loop-place .inv) (c .in-Some .ensures tt))
 
 pub returns : need.returns
-returns c = 
+returns c =
     let some = false-eqb _ 0 (c .if-is-empty .ensures tt) in
     these _ (record { some = omega (arith, some); lengths = omega arith; places = λ i l. c .loop-place .inv .1 i (omega arith) })
