@@ -4,6 +4,7 @@ mod budget;
 mod getters;
 mod loopback;
 mod receive;
+mod saved;
 mod send;
 mod setup;
 mod status;
