@@ -1,0 +1,9 @@
+pub mod Ring
+pub mod Settings
+pub mod Flag
+pub mod Receiver
+pub mod Transmitter
+pub mod Modem
+pub mod Line
+pub mod Tape
+pub mod Core

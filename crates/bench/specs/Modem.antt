@@ -1,0 +1,42 @@
+-- The modem lines, as the modem status register shows them.
+use Prim.Native.Nat.{ℕ}
+use mathlib.Core.Bool.{Bool, cond, not, _&&_}
+use lib.Bits.{bitOr}
+use Rattle.registers.specs.Flags.{contains}
+use Rattle.bench.specs.Flag.{flagged}
+use Rattle.bench.specs.declared.modem.Modem.{Modem}
+
+-- clear to send, data set ready, ring and carrier detect, in bits 4 to 7
+abbrev pub line-bits : Bool → Bool → Bool → Bool → ℕ
+line-bits cts dsr ri cd = bitOr (bitOr (bitOr (flagged cts 0x10) (flagged dsr 0x20)) (flagged ri 0x40)) (flagged cd 0x80)
+
+-- in loop mode the lines are the modem control's outputs
+abbrev pub looped-lines : ℕ → ℕ
+looped-lines mcr = line-bits (contains mcr 0x02) (contains mcr 0x01) (contains mcr 0x04) (contains mcr 0x08)
+
+-- the lines with this modem control
+abbrev pub lines : Modem → ℕ → ℕ
+lines m mcr = cond (contains mcr 0x10) (looped-lines mcr) (m .fixed)
+
+abbrev pub differ : Bool → Bool → Bool
+differ a b = cond a (not b) b
+
+-- a changed line sets its bit, the ring indicator only as it goes off
+abbrev pub line-changes : ℕ → ℕ → ℕ
+line-changes old new =
+  bitOr (bitOr (bitOr
+    (flagged (differ (contains old 0x10) (contains new 0x10)) 0x01)
+    (flagged (differ (contains old 0x20) (contains new 0x20)) 0x02))
+    (flagged (contains old 0x40 && not (contains new 0x40)) 0x04))
+    (flagged (differ (contains old 0x80) (contains new 0x80)) 0x08)
+
+-- the modem control is written
+abbrev pub latched : Modem → ℕ → ℕ → Modem
+latched m old new = record { fixed = m .fixed; changes = bitOr (m .changes) (line-changes (lines m old) (lines m new)) }
+
+-- the modem status is read
+abbrev pub shown : Modem → ℕ → ℕ
+shown m mcr = bitOr (lines m mcr) (m .changes)
+
+abbrev pub unchanged : Modem → Modem
+unchanged m = record { fixed = m .fixed; changes = 0 }
