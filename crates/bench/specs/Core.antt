@@ -17,6 +17,7 @@ use Rattle.bench.specs.declared.settings.Settings.{Settings}
 use Rattle.bench.specs.declared.modem.Modem.{Modem}
 use Rattle.bench.specs.Ring.{Ring·ok, item-at}
 use Rattle.bench.specs.Flag.{flagged}
+use Rattle.bench.specs.Table.{entry-of}
 use Rattle.bench.specs.Settings.{mode, loops, reaches-divisor, scratch-byte, scratch-kept, with-fifos, with-ier, with-lcr, with-mcr, with-dll, with-dlm}
 use Rattle.bench.specs.Receiver.{Room, waiting, reached, data-byte, taken, emptied, noticed, any-marked}
 use Rattle.bench.specs.Transmitter.{filling, sent, struck, unlooped, one-round}
@@ -85,24 +86,36 @@ status s = status-byte
 abbrev pub interrupts-shown : Settings → ℕ
 interrupts-shown g = cond (is-on (mode (g .fifos))) 0xC1 0x01
 
+-- a read of offset 0, and the chip after it
+abbrev pub data-answer : Core → ℕ
+data-answer s = cond (reaches-divisor (s .settings)) (s .settings .dll) (data-byte (s .receiver))
+
+abbrev pub data-answered : Core → Core
+data-answered s = cond (reaches-divisor (s .settings)) s (with-receiver s (taken (s .receiver)))
+
 -- the byte that a register gives
 abbrev pub answer : Core → ℕ → ℕ
-answer s k =
-  cond (eqb k 0) (cond (reaches-divisor (s .settings)) (s .settings .dll) (data-byte (s .receiver)))
-  (cond (eqb k 1) (cond (reaches-divisor (s .settings)) (s .settings .dlm) (s .settings .ier))
-  (cond (eqb k 2) (interrupts-shown (s .settings))
-  (cond (eqb k 3) (s .settings .lcr)
-  (cond (eqb k 4) (s .settings .mcr)
-  (cond (eqb k 5) (status s)
-  (cond (eqb k 6) (shown (s .modem) (s .settings .mcr))
-  (scratch-byte (s .settings .scratch))))))))
+answer s k = entry-of k
+  (data-answer s)
+  (cond (reaches-divisor (s .settings)) (s .settings .dlm) (s .settings .ier))
+  (interrupts-shown (s .settings))
+  (s .settings .lcr)
+  (s .settings .mcr)
+  (status s)
+  (shown (s .modem) (s .settings .mcr))
+  (scratch-byte (s .settings .scratch))
 
 -- the chip after the read
 abbrev pub answered : Core → ℕ → Core
-answered s k =
-  cond (eqb k 0) (cond (reaches-divisor (s .settings)) s (with-receiver s (taken (s .receiver))))
-  (cond (eqb k 5) (with-receiver s (noticed (s .receiver)))
-  (cond (eqb k 6) (with-modem s (unchanged (s .modem))) s))
+answered s k = entry-of k
+  (data-answered s)
+  s
+  s
+  s
+  s
+  (with-receiver s (noticed (s .receiver)))
+  (with-modem s (unchanged (s .modem)))
+  s
 
 -- Writes
 
@@ -132,14 +145,24 @@ modem-controlled v s = record
   ; settings = with-mcr (s .settings) v
   ; modem = latched (s .modem) (s .settings .mcr) v }
 
+-- offset 0 is written
+abbrev pub data-written : Core → ℕ → Core
+data-written s v =
+  cond (reaches-divisor (s .settings)) (with-settings s (with-dll (s .settings) v))
+    (with-transmitter s (sent (loops (s .settings)) (capacity (mode (s .settings .fifos))) v (s .transmitter)))
+
+-- the registers that only keep what is written: offsets 1, 3 and 7
+abbrev pub interrupts-kept : ℕ → Settings → Settings
+interrupts-kept v g = cond (reaches-divisor g) (with-dlm g v) (with-ier g v)
+
 -- the chip after a write
 abbrev pub written : Core → ℕ → ℕ → Core
-written s k v =
-  cond (eqb k 0)
-    (cond (reaches-divisor (s .settings)) (with-settings s (with-dll (s .settings) v))
-      (with-transmitter s (sent (loops (s .settings)) (capacity (mode (s .settings .fifos))) v (s .transmitter))))
-  (cond (eqb k 1) (with-settings s (cond (reaches-divisor (s .settings)) (with-dlm (s .settings) v) (with-ier (s .settings) v)))
-  (cond (eqb k 2) (controlled (s .settings .fifos) v s)
-  (cond (eqb k 3) (with-settings s (with-lcr (s .settings) v))
-  (cond (eqb k 4) (modem-controlled v s)
-  (cond (eqb k 7) (with-settings s (scratch-kept v (s .settings))) s)))))
+written s k v = entry-of k
+  (data-written s v)
+  (with-settings s (interrupts-kept v (s .settings)))
+  (controlled (s .settings .fifos) v s)
+  (with-settings s (with-lcr (s .settings) v))
+  (modem-controlled v s)
+  s
+  s
+  (with-settings s (scratch-kept v (s .settings)))

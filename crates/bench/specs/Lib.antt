@@ -1,9 +1,13 @@
 pub mod Ring
 pub mod Settings
 pub mod Flag
+pub mod Table
 pub mod Receiver
 pub mod Transmitter
 pub mod Modem
 pub mod Line
 pub mod Tape
 pub mod Core
+pub mod Items
+pub mod Sound
+pub mod Kept

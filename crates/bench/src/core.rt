@@ -189,8 +189,8 @@ impl Core {
             2 => self.control_fifos(value),
             3 => self.settings.lcr = value,
             4 => self.control_modem(value),
-            7 => self.settings.keep_scratch(value),
-            _ => {}
+            5 | 6 => {}
+            _ => self.settings.keep_scratch(value),
         }
     }
 }
