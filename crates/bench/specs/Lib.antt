@@ -7,7 +7,10 @@ pub mod Transmitter
 pub mod Modem
 pub mod Line
 pub mod Tape
+pub mod Pace
 pub mod Core
 pub mod Items
 pub mod Sound
 pub mod Kept
+pub mod Parts
+pub mod Ticks

@@ -4,6 +4,8 @@ mod core;
 mod flag;
 mod line;
 mod modem;
+mod pace;
+mod parts;
 mod receiver;
 mod ring;
 mod settings;
