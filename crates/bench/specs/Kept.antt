@@ -165,30 +165,34 @@ sent-sound l room v t most h =
 
 -- The chip itself
 
+pub both-sound : (m : ℕ) (s : Core) → Receiver·sound m (s .receiver) → Transmitter·sound (s .transmitter) → Sound m s
+both-sound m s r t = (r .0, r .1, t .0, t .1)
+
 -- a sound chip can take what comes
 pub sound-fits : (m : ℕ) (s : Core) → m ≤ 65535 → Sound m s → Fits s
-sound-fits m s l h = (h .0 .0, (omega arith, omega arith, omega arith), h .1 .0, h .1 .1)
+sound-fits m s l h = (h .0, (omega arith, omega arith, omega arith), h .2, h .3)
 
 pub turned-sound : (m : ℕ) (s : Core) → Sound m s → Sound m (turned s)
 turned-sound m s h =
     let b = item-at 0 (s .transmitter .turning) 0 in
     cond-both (ltb 0 (s .transmitter .turning .len) && accepting s) _ s (λ t. Sound m t)
-    (λ _. (reached-sound (unmarked b) m m (grows-none b m) (mode (s .settings .fifos)) (s .receiver) (h .0), (h .1 .0, popped-ok (s .transmitter .turning) (h .1 .1))))
+    (λ _. let r = reached-sound (unmarked b) m m (grows-none b m) (mode (s .settings .fifos)) (s .receiver) (h .0, h .1) in (r .0, r .1, h .2, popped-ok (s .transmitter .turning) (h .3)))
     (λ _. h)
 
 pub answered-sound : (m : ℕ) (s : Core) (k : ℕ) → Sound m s → Sound m (answered s k)
 answered-sound m s k h =
     each-entry (λ t. Sound m t) k (data-answered s) s s s s (with-receiver s (noticed (s .receiver))) (with-modem s (unchanged (s .modem))) s
-    (cond-both (reaches-divisor (s .settings)) s (with-receiver s (taken (s .receiver))) (λ t. Sound m t) (λ _. h) (λ _. (taken-sound m (s .receiver) (h .0), h .1)))
+    (cond-both (reaches-divisor (s .settings)) s (with-receiver s (taken (s .receiver))) (λ t. Sound m t) (λ _. h) (λ _. let r = taken-sound m (s .receiver) (h .0, h .1) in (r .0, r .1, h .2, h .3)))
     h h h h h h h
 
 switched-sound : (m : ℕ) (f : Fifos) (s : Core) → Sound m s → Sound m (switched f s)
-switched-sound m f s h = (emptied-sound m (s .receiver) (h .0), struck-sound (s .transmitter) (h .1))
+switched-sound m f s h = both-sound m (switched f s) (emptied-sound m (s .receiver) (h .0, h .1)) (struck-sound (s .transmitter) (h .2, h .3))
 
 reset-sound : (m v : ℕ) (s : Core) → Sound m s → Sound m (reset v s)
 reset-sound m v s h =
-    (cond-both (contains v rx-fifo-reset) (emptied (s .receiver)) (s .receiver) (λ r. Receiver·sound m r) (λ _. emptied-sound m (s .receiver) (h .0)) (λ _. h .0),
-    cond-both (contains v tx-fifo-reset) (struck (s .transmitter)) (s .transmitter) Transmitter·sound (λ _. struck-sound (s .transmitter) (h .1)) (λ _. h .1))
+    both-sound m (reset v s)
+    (cond-both (contains v rx-fifo-reset) (emptied (s .receiver)) (s .receiver) (λ r. Receiver·sound m r) (λ _. emptied-sound m (s .receiver) (h .0, h .1)) (λ _. (h .0, h .1)))
+    (cond-both (contains v tx-fifo-reset) (struck (s .transmitter)) (s .transmitter) Transmitter·sound (λ _. struck-sound (s .transmitter) (h .2, h .3)) (λ _. (h .2, h .3)))
 
 controlled-sound : (m : ℕ) (f : Fifos) (v : ℕ) (s : Core) → Sound m s → Sound m (controlled f v s)
 controlled-sound m Absent v s h = h
@@ -198,13 +202,15 @@ controlled-sound m On v s h =
 
 modem-controlled-sound : (m v : ℕ) (s : Core) → Sound m s → Sound m (modem-controlled v s)
 modem-controlled-sound m v s h =
-    (h .0, cond-both (loops (s .settings) && not (contains v loop-back)) (unlooped (s .transmitter)) (s .transmitter) Transmitter·sound (λ _. unlooped-sound (s .transmitter) (h .1)) (λ _. h .1))
+    both-sound m (modem-controlled v s) (h .0, h .1)
+    (cond-both (loops (s .settings) && not (contains v loop-back)) (unlooped (s .transmitter)) (s .transmitter) Transmitter·sound
+    (λ _. unlooped-sound (s .transmitter) (h .2, h .3)) (λ _. (h .2, h .3)))
 
 data-written-sound : (m : ℕ) (s : Core) (v : ℕ) → Sound m s → Sound m (data-written s v)
 data-written-sound m s v h =
     let f = mode (s .settings .fifos) in
     cond-both (reaches-divisor (s .settings)) (with-settings s (with-dll (s .settings) v)) (with-transmitter s (sent (loops (s .settings)) (capacity f) v (s .transmitter)))
-    (λ t. Sound m t) (λ _. h) (λ _. (h .0, sent-sound (loops (s .settings)) (capacity f) v (s .transmitter) (capacity-most f) (h .1)))
+    (λ t. Sound m t) (λ _. h) (λ _. let t = sent-sound (loops (s .settings)) (capacity f) v (s .transmitter) (capacity-most f) (h .2, h .3) in (h .0, h .1, t .0, t .1))
 
 pub written-sound : (m : ℕ) (s : Core) (k v : ℕ) → Sound m s → Sound m (written s k v)
 written-sound m s k v h =

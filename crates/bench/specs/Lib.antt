@@ -14,3 +14,5 @@ pub mod Sound
 pub mod Kept
 pub mod Parts
 pub mod Ticks
+pub mod Meaning
+pub mod Bench

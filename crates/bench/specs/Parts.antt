@@ -12,9 +12,9 @@ use Rattle.bench.specs.declared.pace.Pace.{Pace}
 use Rattle.bench.specs.Ring.{item-at}
 use Rattle.bench.specs.Settings.{loops}
 use Rattle.bench.specs.Transmitter.{one-gone}
-use Rattle.bench.specs.Core.{accepting, reaching, turned, with-receiver, with-transmitter}
+use Rattle.bench.specs.Core.{accepting, reaching, turned, answered, written, with-receiver, with-transmitter}
 use Rattle.bench.specs.Tape.{older, entry, advanced, left, over}
-use Rattle.bench.specs.Line.{room, written}
+use Rattle.bench.specs.Line.{room, written as line-written}
 use Rattle.bench.specs.Pace.{beats, passed}
 use Rattle.bench.specs.Sound.{Sound}
 
@@ -53,7 +53,7 @@ abbrev pub left-line : Parts → Parts
 left-line p = record
   { core = with-transmitter (p .core) (one-gone (p .core .transmitter))
   ; tape = p .tape
-  ; line = written (p .line) (item-at 0 (p .core .transmitter .held) 0)
+  ; line = line-written (p .line) (item-at 0 (p .core .transmitter .held) 0)
   ; pace = p .pace }
 
 -- a byte is held, and the line has room for it
@@ -82,3 +82,10 @@ passed-outside p = with-tape (beaten p) (older (p .tape))
 -- what happens before an access acts: outside loop mode what arrives comes last
 abbrev pub ticked : Parts → Parts
 ticked p = cond (loops (p .core .settings)) (passed-looping p) (filled (passed-outside p))
+
+-- the parts after a read: first the line moves, and then the register acts
+abbrev pub parts-read : Parts → ℕ → Parts
+parts-read p k = with-core (ticked p) (answered (ticked p .core) k)
+
+abbrev pub parts-written : Parts → ℕ → ℕ → Parts
+parts-written p k v = with-core (ticked p) (written (ticked p .core) k v)

@@ -38,4 +38,4 @@ Transmitter·sound t = Ring·ok (t .held) × Ring·ok (t .turning)
 
 -- m characters came from the line
 abbrev pub Sound : ℕ → Core → Type 0
-Sound m s = Receiver·sound m (s .receiver) × Transmitter·sound (s .transmitter)
+Sound m s = Ring·ok (s .receiver .queue) × Counted (s .receiver .counts) (waiting (s .receiver)) m × Ring·ok (s .transmitter .held) × Ring·ok (s .transmitter .turning)

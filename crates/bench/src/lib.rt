@@ -1,5 +1,6 @@
 //! Simulated 16550s, proved to keep the rules of a chip.
 
+mod bench;
 mod core;
 mod flag;
 mod line;
@@ -11,3 +12,7 @@ mod ring;
 mod settings;
 mod tape;
 mod transmitter;
+
+pub use crate::bench::device::BenchBackend;
+pub use crate::bench::Bench;
+pub use tape::TapeEntry;

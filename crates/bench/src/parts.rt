@@ -1,7 +1,8 @@
 //! A chip with a tape and a line, and what they do before an access.
 
 ghost use Prim.Native.Nat.{ℕ, _+_, _<_, _≤_, _^_};
-ghost use Rattle.bench.specs.Parts.{Parts·sound, arriving, arrives, leaving, filled, passed-looping, passed-outside, ticked};
+ghost use Rattle.bench.specs.Core.{answer};
+ghost use Rattle.bench.specs.Parts.{Parts·sound, arriving, arrives, leaving, filled, passed-looping, passed-outside, ticked, parts-read, parts-written};
 ghost use Rattle.bench.specs.Ring.{Ring·ok};
 ghost use mathlib.Core.Bool.{true};
 ghost use mathlib.Core.Path.{_≡_};
@@ -90,5 +91,24 @@ impl Parts {
             self.pass();
             self.fill();
         }
+    }
+
+    /// A register is read.
+    pub fn read(&mut self, offset: u8) -> u8
+        requires { ⌜ Parts·sound (now self) ⌝ }
+        ensures value { λ r. ⌜ r ≡ answer (ticked (now (self .entry)) .core) offset ⌝ }
+        ensures state { λ _. ⌜ now (self .exit) ≡ parts-read (now (self .entry)) offset ⌝ }
+    {
+        self.tick();
+        self.core.read(offset)
+    }
+
+    /// A register is written.
+    pub fn write(&mut self, offset: u8, value: u8)
+        requires { ⌜ Parts·sound (now self) ⌝ }
+        ensures { λ _. ⌜ now (self .exit) ≡ parts-written (now (self .entry)) offset value ⌝ }
+    {
+        self.tick();
+        self.core.write(offset, value);
     }
 }
