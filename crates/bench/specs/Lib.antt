@@ -16,3 +16,4 @@ pub mod Parts
 pub mod Ticks
 pub mod Meaning
 pub mod Bench
+pub mod Making

@@ -5,10 +5,15 @@ use lib.Bits.{bitOr}
 use Rattle.registers.specs.Flags.{contains}
 use Rattle.bench.specs.Flag.{flagged}
 use Rattle.bench.specs.declared.modem.Modem.{Modem}
+use Rattle.bench.specs.declared.modem.ModemLines.{ModemLines}
 
 -- clear to send, data set ready, ring and carrier detect, in bits 4 to 7
 abbrev pub line-bits : Bool → Bool → Bool → Bool → ℕ
 line-bits cts dsr ri cd = bitOr (bitOr (bitOr (flagged cts 0x10) (flagged dsr 0x20)) (flagged ri 0x40)) (flagged cd 0x80)
+
+-- fixed lines, and no change
+abbrev pub still : ModemLines → Modem
+still l = record { fixed = line-bits (l .«clear_to_send») (l .«data_set_ready») (l .«ring_indicator») (l .«carrier_detect»); changes = 0 }
 
 -- in loop mode the lines are the modem control's outputs
 abbrev pub looped-lines : ℕ → ℕ

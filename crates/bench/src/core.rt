@@ -2,16 +2,20 @@
 
 ghost use Prim.Native.Nat.{ℕ, _+_, _<_, _≤_, _^_};
 ghost use Rattle.bench.specs.Core.{Fits, status as shown-status, interrupts-shown, answer as answering, answered, controlled, switched, reset as emptying, modem-controlled, written, turned, accepting};
+ghost use Rattle.bench.specs.Making.{Made};
 ghost use Rattle.bench.specs.Ring.{Ring·ok};
 ghost use Rattle.bench.specs.Settings.{mode, scratch-byte, scratch-kept};
 ghost use mathlib.Core.Path.{_≡_};
 use crate::flag::flag;
 use crate::modem::Modem;
+use crate::modem::ModemLines;
 use crate::receiver::Receiver;
+use crate::ring::Ring;
 use crate::settings::Fifos;
 use crate::settings::Settings;
 use crate::transmitter::Transmitter;
 use backends::Character;
+use backends::Counts;
 use registers::fcr::FIFO_ENABLE;
 use registers::fcr::RX_FIFO_RESET;
 use registers::fcr::TX_FIFO_RESET;
@@ -28,6 +32,37 @@ pub struct Core {
 }
 
 impl Core {
+    /// A chip with all registers at 0.
+    pub fn new(fifos: bool, scratch: bool, lines: ModemLines) -> Core
+        ensures { λ r. ⌜ Made fifos scratch lines r ⌝ }
+    {
+        let blank = Character {
+            byte: 0,
+            parity: false,
+            framing: false,
+            broken: false,
+        };
+        let none = Counts {
+            lost: 0,
+            parity: 0,
+            framing: 0,
+            broken: 0,
+        };
+        Core {
+            receiver: Receiver {
+                queue: Ring::new(blank),
+                counts: none,
+                seen: none,
+            },
+            transmitter: Transmitter {
+                held: Ring::new(0),
+                turning: Ring::new(0),
+            },
+            settings: Settings::new(fifos, scratch),
+            modem: Modem::new(lines),
+        }
+    }
+
     /// Whether a character may reach the receiver: one more may be lost.
     pub fn accepts(&self) -> bool
         ensures { λ r. ⌜ r ≡ accepting (now (self .entry)) ⌝ }

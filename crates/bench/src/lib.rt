@@ -14,5 +14,8 @@ mod tape;
 mod transmitter;
 
 pub use crate::bench::device::BenchBackend;
+pub use crate::bench::device::BenchChip;
+pub use crate::bench::making::BenchOptions;
 pub use crate::bench::Bench;
+pub use modem::ModemLines;
 pub use tape::TapeEntry;

@@ -1,6 +1,6 @@
 //! The modem lines, as the modem status register shows them.
 
-ghost use Rattle.bench.specs.Modem.{line-bits, lines as shown-lines, line-changes, differ as differs, latched, shown, unchanged};
+ghost use Rattle.bench.specs.Modem.{line-bits, lines as shown-lines, line-changes, differ as differs, latched, shown, unchanged, still};
 ghost use mathlib.Core.Path.{_≡_};
 use crate::flag::flag;
 use registers::flags::contains;
@@ -9,6 +9,19 @@ use registers::mcr::LOOP_BACK;
 use registers::mcr::OUT_1;
 use registers::mcr::OUT_2_INT_ENABLE;
 use registers::mcr::RTS;
+
+/// The lines that the other side drives.
+#[derive(Clone, Copy)]
+pub struct ModemLines {
+    /// The other side can receive.
+    pub clear_to_send: bool,
+    /// It is powered on.
+    pub data_set_ready: bool,
+    /// It rings.
+    pub ring_indicator: bool,
+    /// It has a carrier.
+    pub carrier_detect: bool,
+}
 
 /// The lines outside loop mode, and the change bits that no read has cleared.
 #[derive(Clone, Copy)]
@@ -42,6 +55,21 @@ fn changes(old: u8, new: u8) -> u8
 }
 
 impl Modem {
+    /// Fixed lines, and no change.
+    pub fn new(lines: ModemLines) -> Modem
+        ensures { λ r. ⌜ r ≡ still lines ⌝ }
+    {
+        Modem {
+            fixed: line_bits(
+                lines.clear_to_send,
+                lines.data_set_ready,
+                lines.ring_indicator,
+                lines.carrier_detect,
+            ),
+            changes: 0,
+        }
+    }
+
     /// The lines with this modem control: in loop mode its outputs.
     fn lines(&self, mcr: u8) -> u8
         ensures { λ r. ⌜ r ≡ shown-lines (now (self .entry)) mcr ⌝ }

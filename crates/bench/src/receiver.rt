@@ -1,10 +1,12 @@
 //! The receiving side: the queue of unread characters, and the error events.
 
-ghost use Prim.Native.Nat.{ℕ, _+_, _<_, _^_};
+ghost use Prim.Native.Nat.{ℕ, _+_, _<_, _≤_, _^_};
 ghost use Rattle.backends.specs.Rules.{first as firsts, one-more};
 ghost use Rattle.bench.specs.Receiver.{Room, reached, taken, data-byte, waiting, bears-mark, any-marked};
 ghost use Rattle.bench.specs.Ring.{Ring·ok};
 ghost use Rattle.bench.specs.Settings.{mode};
+ghost use Rattle.std.specs.declared.option.Option.the-variants.{Some, None};
+ghost use lib.ListN.{length, getD};
 ghost use mathlib.Core.Path.{_≡_};
 use crate::ring::Ring;
 use crate::settings::Fifos;
@@ -102,5 +104,20 @@ impl Receiver {
             at += 1;
         }
         false
+    }
+
+    /// The waiting character at this place, counted from the oldest.
+    pub fn waiting_at(&self, at: u8) -> Option<Character>
+        requires { ⌜ Ring·ok (now self .queue) ⌝ }
+        ensures { λ r. ⌜ elim r [
+          | Some c ↦ (at < length (waiting (now (self .entry)))) × (c ≡ getD (waiting (now (self .entry))) at c)
+          | None ↦ length (waiting (now (self .entry))) ≤ at
+        ] ⌝ }
+    {
+        if at < self.queue.len() {
+            Some(self.queue.get(at))
+        } else {
+            None
+        }
     }
 }

@@ -1,6 +1,7 @@
 //! What the registers of the chip are set to.
 
 ghost use Rattle.backends.specs.Chip.{capacity as holds, is-on};
+ghost use Rattle.bench.specs.Making.{all-zero};
 ghost use Rattle.bench.specs.Settings.{mode, loops, reaches-divisor, scratch-byte, scratch-kept};
 ghost use mathlib.Core.Path.{_≡_};
 use registers::flags::contains;
@@ -56,6 +57,21 @@ pub struct Settings {
 }
 
 impl Settings {
+    /// All registers at 0. FIFOs start off.
+    pub fn new(fifos: bool, scratch: bool) -> Settings
+        ensures { λ r. ⌜ r ≡ all-zero fifos scratch ⌝ }
+    {
+        Settings {
+            ier: 0,
+            lcr: 0,
+            mcr: 0,
+            dll: 0,
+            dlm: 0,
+            scratch: if scratch { Some(0) } else { None },
+            fifos: if fifos { Fifos::Off } else { Fifos::Absent },
+        }
+    }
+
     /// Loop mode.
     pub fn looping(&self) -> bool
         ensures { λ r. ⌜ r ≡ loops (now (self .entry)) ⌝ }

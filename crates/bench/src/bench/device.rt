@@ -21,3 +21,7 @@ pub impl Backend for Bench as BenchBackend {
         }
     }
 }
+
+pub impl Chip for Bench as BenchChip {
+    ghost meaning = { bench-meaning };
+}
