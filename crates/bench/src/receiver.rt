@@ -80,7 +80,8 @@ impl Receiver {
         ensures value { λ r. ⌜ r ≡ data-byte (now (self .entry)) ⌝ }
         ensures state { λ _. ⌜ now (self .exit) ≡ taken (now (self .entry)) ⌝ }
     {
-        if self.queue.len() == 0 {
+        let waiting = self.queue.len();
+        if waiting == 0 {
             return 0;
         }
         let byte = self.queue.get(0).byte;
