@@ -8,6 +8,7 @@ mod fault;
 mod frames;
 mod hex;
 mod looks;
+mod numbers;
 mod places;
 mod play;
 mod questions;

@@ -1,8 +1,10 @@
-//! Refusals by their numbers and values.
+//! Refusals in an answer: `no`, the number, and the values.
 
+use crate::numbers;
 use crate::show::Prescaler;
 use crate::show::PrescalerDisplay;
 use registers::error::BudgetError;
+use registers::error::ByteReceiveError;
 use registers::error::ByteSendError;
 use registers::error::InitError;
 use registers::error::InvalidAddressError;
@@ -16,40 +18,39 @@ use std::fmt::Write;
 
 /// Registers that cannot stand at an address.
 pub fn address(e: InvalidAddressError, out: &mut String) -> fmt::Result {
+    let number = numbers::of_address(e);
     match e {
-        InvalidAddressError::InvalidStride(stride) => write!(out, "no 1 {stride}"),
-        InvalidAddressError::InvalidBaseAddress(base) => write!(out, "no 2 {base}"),
+        InvalidAddressError::InvalidStride(stride) => write!(out, "no {number} {stride}"),
+        InvalidAddressError::InvalidBaseAddress(base) => write!(out, "no {number} {base}"),
     }
 }
 
 /// A rate without a divisor.
 pub fn divisor(e: InvalidDivisorError, out: &mut String) -> fmt::Result {
+    let number = numbers::of_divisor(e);
     match e {
-        InvalidDivisorError::ZeroFrequency => out.write_str("no 3"),
-        InvalidDivisorError::ZeroBaudRate => out.write_str("no 4"),
-        InvalidDivisorError::InvalidPrescaler => out.write_str("no 5"),
         InvalidDivisorError::NonInteger(e) => {
             let frequency = e.frequency;
             let rate = e.baud_rate;
             let prescaler = Prescaler(e.prescaler_division_factor);
-            write!(out, "no 6 {frequency} {rate} {prescaler}")
+            write!(out, "no {number} {frequency} {rate} {prescaler}")
         }
-        InvalidDivisorError::OutOfRange { divisor } => write!(out, "no 7 {divisor}"),
+        InvalidDivisorError::OutOfRange { divisor } => write!(out, "no {number} {divisor}"),
+        _ => write!(out, "no {number}"),
     }
 }
 
 /// A divisor without a rate.
 pub fn baud_rate(e: InvalidBaudRateError, out: &mut String) -> fmt::Result {
+    let number = numbers::of_baud_rate(e);
     match e {
-        InvalidBaudRateError::ZeroFrequency => out.write_str("no 3"),
-        InvalidBaudRateError::ZeroDivisor => out.write_str("no 18"),
-        InvalidBaudRateError::InvalidPrescaler => out.write_str("no 5"),
         InvalidBaudRateError::NonInteger(e) => {
             let frequency = e.frequency;
             let divisor = e.divisor;
             let prescaler = Prescaler(e.prescaler_division_factor);
-            write!(out, "no 19 {frequency} {divisor} {prescaler}")
+            write!(out, "no {number} {frequency} {divisor} {prescaler}")
         }
+        _ => write!(out, "no {number}"),
     }
 }
 
@@ -57,15 +58,19 @@ pub fn baud_rate(e: InvalidBaudRateError, out: &mut String) -> fmt::Result {
 pub fn init(e: InitError, out: &mut String) -> fmt::Result {
     match e {
         InitError::InvalidBaudRate(e) => divisor(e, out),
-        InitError::DeviceNotPresent => out.write_str("no 8"),
         InitError::BudgetUsedUp(e) => budget(e, out),
+        InitError::DeviceNotPresent => {
+            let number = numbers::of_init(e);
+            write!(out, "no {number}")
+        }
     }
 }
 
 /// A budget that was used up in a wait.
 pub fn budget(e: BudgetError, out: &mut String) -> fmt::Result {
+    let number = numbers::of_budget(e);
     let wait = wait_name(e.wait);
-    write!(out, "no 9 {wait}")
+    write!(out, "no {number} {wait}")
 }
 
 fn wait_name(wait: Wait) -> &'static str {
@@ -80,37 +85,36 @@ fn wait_name(wait: Wait) -> &'static str {
     }
 }
 
-/// The number of a send that was refused.
-fn send_number(e: ByteSendError) -> u8 {
-    match e {
-        ByteSendError::NoCapacity => 11,
-        ByteSendError::RemoteNotClearToSend => 12,
-    }
+/// A receive that found nothing.
+pub fn receive(e: ByteReceiveError, out: &mut String) -> fmt::Result {
+    let number = numbers::of_receive(e);
+    write!(out, "no {number}")
 }
 
 /// A send that was refused.
 pub fn send(e: ByteSendError, out: &mut String) -> fmt::Result {
-    let number = send_number(e);
+    let number = numbers::of_send(e);
     write!(out, "no {number}")
 }
 
 /// A remote that is not ready.
 pub fn remote(e: RemoteReadyToReceiveError, out: &mut String) -> fmt::Result {
-    match e {
-        RemoteReadyToReceiveError::NoRemoteConnectedNoDSR => out.write_str("no 13"),
-        RemoteReadyToReceiveError::RemoteNotClearToSend => out.write_str("no 14"),
-    }
+    let number = numbers::of_remote(e);
+    write!(out, "no {number}")
 }
 
 /// A loopback test that failed.
 pub fn loopback(e: LoopbackError, out: &mut String) -> fmt::Result {
+    let number = numbers::of_loopback(e);
     match e {
         LoopbackError::SendError(e) => {
-            let number = send_number(e);
-            write!(out, "no 15 {number}")
+            let inner = numbers::of_send(e);
+            write!(out, "no {number} {inner}")
         }
-        LoopbackError::UnexpectedLoopbackByte { actual } => write!(out, "no 16 {actual:02X}"),
-        LoopbackError::UnexpectedLoopbackMsg => out.write_str("no 17"),
+        LoopbackError::UnexpectedLoopbackByte { actual } => {
+            write!(out, "no {number} {actual:02X}")
+        }
+        LoopbackError::UnexpectedLoopbackMsg => write!(out, "no {number}"),
         LoopbackError::BudgetUsedUp(e) => budget(e, out),
     }
 }

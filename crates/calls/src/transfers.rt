@@ -11,7 +11,6 @@ use crate::transcript::TranscriptBackend;
 use crate::words::Words;
 use backends::ScriptBackend;
 use driver::Transferred;
-use registers::error::ByteReceiveError;
 use std::alloc::Global;
 use std::fmt::Write;
 
@@ -116,7 +115,7 @@ fn try_receive(
     words.end()?;
     match device.try_receive_byte() {
         Ok(byte) => write!(out, "ok {byte:02X}")?,
-        Err(ByteReceiveError) => out.write_str("no 10")?,
+        Err(e) => refusals::receive(e, out)?,
     }
     Ok(())
 }
@@ -139,7 +138,7 @@ fn ready_receive(
     words.end()?;
     match device.ready_to_receive() {
         Ok(()) => out.write_str("ok")?,
-        Err(ByteReceiveError) => out.write_str("no 10")?,
+        Err(e) => refusals::receive(e, out)?,
     }
     Ok(())
 }
