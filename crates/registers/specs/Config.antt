@@ -1,5 +1,6 @@
 -- The configuration: its rate as a number, and its default.
 use Prim.Native.Nat.{ℕ}
+use mathlib.Core.Path.{_≡_}
 use mathlib.Core.Bool.{false}
 use Rattle.std.specs.declared.option.Option.the-variants.{Some, None}
 use Rattle.registers.specs.declared.config.BaudRate.{BaudRate}
@@ -23,6 +24,11 @@ rate Baud300 = 300
 rate Baud150 = 150
 rate Baud110 = 110
 rate (Custom r) = r
+
+-- b is the rate n, and is `Custom` only where no named rate is n
+pub record Named·rate (n : ℕ) (b : BaudRate) : Type 0 where
+  pub value : rate b ≡ n
+  pub custom : b ≡ Custom n → (other : BaudRate) → rate other ≡ n → other ≡ Custom n
 
 -- 9600 8N1 at 1.8432 MHz, FIFOs on at level 14, no interrupts, no check of the remote
 abbrev pub default : Config

@@ -1,12 +1,16 @@
 -- Register bits, by masks: the names are the datasheet's.
 use Prim.Native.Nat.{ℕ}
-use mathlib.Core.Bool.{Bool}
+use mathlib.Core.Bool.{Bool, not}
 use lib.Bits.{bitAnd}
 use lib.Dec.{eqb}
 
 -- all bits of the mask m are set in the byte v
 unfoldable pub contains : ℕ → ℕ → Bool
 contains v m = eqb (bitAnd v m) m
+
+-- some bit of the mask m is set in the byte v
+unfoldable pub meets : ℕ → ℕ → Bool
+meets v m = not (eqb (bitAnd v m) 0)
 
 -- the line status: a character waits
 abbrev pub data-ready : ℕ

@@ -1,7 +1,14 @@
 pub mod Offsets
 pub mod Flags
+pub mod Fields
 pub mod Fifo
 pub mod Frame
+pub mod Interrupts
+pub mod Modem
 pub mod Config
 pub mod Refusal
 pub mod Divisor
+pub mod Rate
+pub mod Divisors
+pub mod Dump
+pub mod Examples

@@ -4,6 +4,8 @@ use mathlib.Core.List.{List, [], _∷_}
 use Rattle.std.specs.declared.option.Option.{Option}
 use Rattle.registers.specs.declared.error.InvalidDivisorError.{InvalidDivisorError}
 use Rattle.registers.specs.declared.error.InvalidDivisorError.the-variants.{ZeroFrequency, ZeroBaudRate, InvalidPrescaler, NonInteger, OutOfRange}
+use Rattle.registers.specs.declared.error.InvalidBaudRateError.{InvalidBaudRateError}
+use Rattle.registers.specs.declared.error.InvalidBaudRateError.the-variants.{ZeroFrequency as NoFrequency, ZeroDivisor, InvalidPrescaler as LargePrescaler, NonInteger as NonIntegerRate}
 use Rattle.registers.specs.declared.error.Wait.{Wait}
 use Rattle.registers.specs.declared.error.BudgetError.{BudgetError}
 use Rattle.registers.specs.declared.error.InitError.{InitError}
@@ -38,6 +40,13 @@ divisor-refusal ZeroBaudRate = refusal 4 []
 divisor-refusal InvalidPrescaler = refusal 5 []
 divisor-refusal (NonInteger e) = refusal 6 (amount (e .frequency) ∷ amount (e .«baud_rate») ∷ optional (e .«prescaler_division_factor») ∷ [])
 divisor-refusal (OutOfRange q) = refusal 7 (amount q ∷ [])
+
+-- why there is no rate
+abbrev pub baud-refusal : InvalidBaudRateError → Refusal
+baud-refusal NoFrequency = refusal 3 []
+baud-refusal ZeroDivisor = refusal 18 []
+baud-refusal LargePrescaler = refusal 5 []
+baud-refusal (NonIntegerRate e) = refusal 19 (amount (e .frequency) ∷ amount (e .divisor) ∷ optional (e .«prescaler_division_factor») ∷ [])
 
 -- why a call gave up waiting
 abbrev pub budget-refusal : BudgetError → Refusal

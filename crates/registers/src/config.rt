@@ -1,6 +1,9 @@
 //! What a driver is set up with.
 
-ghost use Rattle.registers.specs.Config.{rate, default};
+ghost use Prim.Native.Nat.{_<_};
+ghost use Rattle.registers.specs.Config.{rate, default, Named·rate};
+ghost use Rattle.std.specs.Options.{SomeBy};
+ghost use Rattle.std.specs.Orderings.{Ranked};
 ghost use mathlib.Core.Path.{_≡_};
 use crate::divisor::CLK_FREQUENCY_HZ;
 use crate::fcr::FifoTriggerLevel;
@@ -12,6 +15,7 @@ use crate::lcr::ParityPartialEq;
 use crate::lcr::WordLength;
 use crate::lcr::WordLengthDebug;
 use crate::lcr::WordLengthPartialEq;
+use std::cmp::Ordering;
 
 /// A transmission rate in bits per second.
 #[derive(Clone, Copy, Debug, PartialEq, Eq)]
@@ -49,6 +53,42 @@ impl BaudRate {
             Self::Baud110 => 110,
             Self::Custom(rate) => rate,
         }
+    }
+
+    /// The rate with this number: by its name where it has one, else `Custom`.
+    pub fn from_integer(value: u32) -> Self
+        ensures { λ r. ⌜ Named·rate value r ⌝ }
+    {
+        match value {
+            115_200 => Self::Baud115200,
+            57_600 => Self::Baud57600,
+            38_400 => Self::Baud38400,
+            9_600 => Self::Baud9600,
+            4_800 => Self::Baud4800,
+            2_400 => Self::Baud2400,
+            1_200 => Self::Baud1200,
+            600 => Self::Baud600,
+            300 => Self::Baud300,
+            150 => Self::Baud150,
+            110 => Self::Baud110,
+            rate => Self::Custom(rate),
+        }
+    }
+}
+
+pub impl PartialOrd<BaudRate> for BaudRate as BaudRatePartialOrd {
+    ghost compares = { λ a b r. SomeBy r (λ o. Ranked o (rate a < rate b) (rate a ≡ rate b) (rate b < rate a)) };
+
+    fn partial_cmp(&self, other: &Self) -> Option<Ordering> {
+        Some(self.cmp(other))
+    }
+}
+
+pub impl Ord for BaudRate as BaudRateOrd {
+    ghost orders = { λ a b r. Ranked r (rate a < rate b) (rate a ≡ rate b) (rate b < rate a) };
+
+    fn cmp(&self, other: &Self) -> Ordering {
+        self.to_integer().cmp(&other.to_integer())
     }
 }
 

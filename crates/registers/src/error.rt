@@ -33,6 +33,30 @@ pub enum InvalidDivisorError {
     },
 }
 
+/// No rate is an integer for these values.
+#[derive(Clone, Copy, Debug, PartialEq, Eq)]
+pub struct NonIntegerBaudRateError {
+    /// The clock frequency.
+    pub frequency: u32,
+    /// The divisor.
+    pub divisor: u32,
+    /// The prescaler, if there is one.
+    pub prescaler_division_factor: Option<u32>,
+}
+
+/// Why a frequency and a divisor have no rate.
+#[derive(Clone, Copy, Debug, PartialEq, Eq)]
+pub enum InvalidBaudRateError {
+    /// The frequency is 0.
+    ZeroFrequency,
+    /// The divisor is 0.
+    ZeroDivisor,
+    /// The prescaler is above 15.
+    InvalidPrescaler,
+    /// The rate would not be an integer.
+    NonInteger(NonIntegerBaudRateError),
+}
+
 /// What a call was waiting for.
 #[derive(Clone, Copy, Debug, PartialEq, Eq)]
 pub enum Wait {

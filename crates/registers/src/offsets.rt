@@ -22,3 +22,5 @@ pub const SPR: u8 = 7;
 pub const DLL: u8 = 0;
 /// High byte of the divisor, while LCR bit 7 is set.
 pub const DLM: u8 = 1;
+/// Prescaler division, while LCR bit 7 is set, on devices that have one.
+pub const PSD: u8 = 6;

@@ -16,6 +16,6 @@ pub returns-in-rest : need.returns-in-rest
 returns-in-rest c =
     no-integer (omega arith) (omega arith) (omega arith) (rw (c .prescale-prescaler .ensures) at (c .in-rest .ensures tt))
 
-pub returns-then-divisor-gt65535 : need.returns-then-divisor-gt65535
-returns-then-divisor-gt65535 c =
+pub returns-then-divisor-gt-MAX-DIVISOR : need.returns-then-divisor-gt-MAX-DIVISOR
+returns-then-divisor-gt-MAX-DIVISOR c =
     too-large (omega arith) (omega arith) (omega arith) (c .in-Some .divisor) (rw (c .prescale-prescaler .ensures) at (c .in-Some .ensures tt)) (omega arith)
