@@ -1,8 +1,9 @@
 -- The modem lines, as the modem status register shows them.
-use Prim.Native.Nat.{ℕ}
-use mathlib.Core.Bool.{Bool, cond, not, _&&_}
+use Prim.Native.Nat.{ℕ, _+_, _*_}
+use mathlib.Core.Bool.{Bool, cond}
 use lib.Bits.{bitOr}
 use Rattle.registers.specs.Flags.{contains}
+use Rattle.registers.specs.Modem.{changed, fell}
 use Rattle.bench.specs.Flag.{flagged}
 use Rattle.bench.specs.declared.modem.Modem.{Modem}
 use Rattle.bench.specs.declared.modem.ModemLines.{ModemLines}
@@ -23,17 +24,9 @@ looped-lines mcr = line-bits (contains mcr 0x02) (contains mcr 0x01) (contains m
 abbrev pub lines : Modem → ℕ → ℕ
 lines m mcr = cond (contains mcr 0x10) (looped-lines mcr) (m .fixed)
 
-abbrev pub differ : Bool → Bool → Bool
-differ a b = cond a (not b) b
-
 -- a changed line sets its bit, the ring indicator only as it goes off
 abbrev pub line-changes : ℕ → ℕ → ℕ
-line-changes old new =
-  bitOr (bitOr (bitOr
-    (flagged (differ (contains old 0x10) (contains new 0x10)) 0x01)
-    (flagged (differ (contains old 0x20) (contains new 0x20)) 0x02))
-    (flagged (contains old 0x40 && not (contains new 0x40)) 0x04))
-    (flagged (differ (contains old 0x80) (contains new 0x80)) 0x08)
+line-changes old new = changed 4 old new + 2 * changed 5 old new + 4 * fell 6 old new + 8 * changed 7 old new
 
 -- the modem control is written
 abbrev pub latched : Modem → ℕ → ℕ → Modem

@@ -1,6 +1,6 @@
 //! The modem lines, as the modem status register shows them.
 
-ghost use Rattle.bench.specs.Modem.{line-bits, lines as shown-lines, line-changes, differ as differs, latched, shown, unchanged, still};
+ghost use Rattle.bench.specs.Modem.{line-bits, lines as shown-lines, latched, shown, unchanged, still};
 ghost use mathlib.Core.Path.{_≡_};
 use crate::flag::flag;
 use registers::flags::contains;
@@ -9,6 +9,7 @@ use registers::mcr::LOOP_BACK;
 use registers::mcr::OUT_1;
 use registers::mcr::OUT_2_INT_ENABLE;
 use registers::mcr::RTS;
+use registers::msr::modem_line_changes;
 
 /// The lines that the other side drives.
 #[derive(Clone, Copy)]
@@ -35,23 +36,6 @@ pub fn line_bits(clear_to_send: bool, data_set_ready: bool, ring: bool, carrier:
     ensures { λ r. ⌜ r ≡ line-bits «clear_to_send» «data_set_ready» ring carrier ⌝ }
 {
     flag(clear_to_send, 0x10) | flag(data_set_ready, 0x20) | flag(ring, 0x40) | flag(carrier, 0x80)
-}
-
-/// Whether the tests differ.
-fn differ(a: bool, b: bool) -> bool
-    ensures { λ r. ⌜ r ≡ differs a b ⌝ }
-{
-    if a { !b } else { b }
-}
-
-/// The change bits that the step from the old lines to the new ones sets.
-fn changes(old: u8, new: u8) -> u8
-    ensures { λ r. ⌜ r ≡ line-changes old new ⌝ }
-{
-    flag(differ(contains(old, 0x10), contains(new, 0x10)), 0x01)
-        | flag(differ(contains(old, 0x20), contains(new, 0x20)), 0x02)
-        | flag(contains(old, 0x40) && !contains(new, 0x40), 0x04)
-        | flag(differ(contains(old, 0x80), contains(new, 0x80)), 0x08)
 }
 
 impl Modem {
@@ -90,7 +74,7 @@ impl Modem {
     pub fn latch(&mut self, old: u8, new: u8)
         ensures { λ _. ⌜ now (self .exit) ≡ latched (now (self .entry)) old new ⌝ }
     {
-        self.changes |= changes(self.lines(old), self.lines(new));
+        self.changes |= modem_line_changes(self.lines(old), self.lines(new));
     }
 
     /// The modem status is read, which clears the change bits.
