@@ -48,7 +48,7 @@ module _ (came : List Character) (gone : List ℕ) (s : Core) where
       scratch = λ z. ap (λ j. chip-of came gone (answered s j)) z }
 
 -- parts that mean the same make chips that mean the same
-chip-path : (r q : Rules·receiver) (t u : Rules·transmitter) (g : Setup) → r ≡ q → t ≡ u
+pub chip-path : (r q : Rules·receiver) (t u : Rules·transmitter) (g : Setup) → r ≡ q → t ≡ u
     → _≡_ {A = Chip·state} (record { receiver = r; transmitter = t; setup = g }) (record { receiver = q; transmitter = u; setup = g })
 chip-path r q t u g p e = cc
 

@@ -28,14 +28,11 @@ use Rattle.bench.specs.Sound.{Sound}
 use Rattle.bench.specs.Tape.{entry, left, came, over, advanced}
 use Rattle.bench.specs.Ticks.{arriving-more, arrives-sound, passed-outside-sound}
 use Rattle.bench.specs.Transmitter.{one-round, one-gone}
+use Rattle.bench.proofs.Acts.{chip-path}
 use Rattle.bench.proofs.Reaches.{reach-is}
 use Rattle.bench.proofs.Sends.{gone-written, one-gone-is, one-round-is}
 
 -- Loop mode
-
-chip-path : (r q : Rules·receiver) (t u : Rules·transmitter) (g : Setup) → r ≡ q → t ≡ u
-    → _≡_ {A = Chip·state} (record { receiver = r; transmitter = t; setup = g }) (record { receiver = q; transmitter = u; setup = g })
-chip-path r q t u g p e = cc
 
 pub none-round : (m : Chip·state) → Loop·moved m m
 none-round m = record { rounds = 0; enough = omega arith; after = refl }

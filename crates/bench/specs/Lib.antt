@@ -17,3 +17,5 @@ pub mod Ticks
 pub mod Meaning
 pub mod Bench
 pub mod Making
+pub mod Wired
+pub mod Plug

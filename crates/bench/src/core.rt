@@ -10,11 +10,11 @@ use crate::flag::flag;
 use crate::modem::Modem;
 use crate::modem::ModemLines;
 use crate::receiver::Receiver;
+use crate::receiver::unmarked;
 use crate::ring::Ring;
 use crate::settings::Fifos;
 use crate::settings::Settings;
 use crate::transmitter::Transmitter;
-use backends::Character;
 use backends::Counts;
 use registers::fcr::FIFO_ENABLE;
 use registers::fcr::RX_FIFO_RESET;
@@ -36,12 +36,6 @@ impl Core {
     pub fn new(fifos: bool, scratch: bool, lines: ModemLines) -> Core
         ensures { λ r. ⌜ Made fifos scratch lines r ⌝ }
     {
-        let blank = Character {
-            byte: 0,
-            parity: false,
-            framing: false,
-            broken: false,
-        };
         let none = Counts {
             lost: 0,
             parity: 0,
@@ -50,7 +44,7 @@ impl Core {
         };
         Core {
             receiver: Receiver {
-                queue: Ring::new(blank),
+                queue: Ring::new(unmarked(0)),
                 counts: none,
                 seen: none,
             },
@@ -78,15 +72,7 @@ impl Core {
         if self.transmitter.turning.len() > 0 && self.accepts() {
             let byte = self.transmitter.turning.get(0);
             self.transmitter.turning.pop();
-            self.receiver.reach(
-                self.settings.fifos,
-                Character {
-                    byte,
-                    parity: false,
-                    framing: false,
-                    broken: false,
-                },
-            );
+            self.receiver.reach(self.settings.fifos, unmarked(byte));
         }
     }
 

@@ -1,7 +1,7 @@
 //! The receiving side: the queue of unread characters, and the error events.
 
 ghost use Prim.Native.Nat.{ℕ, _+_, _<_, _≤_, _^_};
-ghost use Rattle.backends.specs.Rules.{first as firsts, one-more};
+ghost use Rattle.backends.specs.Rules.{first as firsts, one-more, unmarked as without-marks};
 ghost use Rattle.bench.specs.Receiver.{Room, reached, taken, data-byte, waiting, bears-mark, any-marked};
 ghost use Rattle.bench.specs.Ring.{Ring·ok};
 ghost use Rattle.bench.specs.Settings.{mode};
@@ -40,6 +40,18 @@ fn first(c: Character, n: Counts) -> Counts
         parity: one_more(c.parity, n.parity),
         framing: one_more(c.framing, n.framing),
         broken: one_more(c.broken, n.broken),
+    }
+}
+
+/// A byte without marks.
+pub fn unmarked(byte: u8) -> Character
+    ensures { λ r. ⌜ r ≡ without-marks byte ⌝ }
+{
+    Character {
+        byte,
+        parity: false,
+        framing: false,
+        broken: false,
     }
 }
 
