@@ -39,22 +39,24 @@ module _ (t : Transmitter) (ok : Transmitter·sound t) (g : List ℕ) where
       let k = length-items 0 (t .turning) in
       simp k
       (elim (ltb (filling t) most) as (λ b. ltb (filling t) most ≡ b
-          → transmitter-of g (cond b
-              (cond loops (record { held = t .held; turning = pushed (t .turning) v }) (record { held = pushed (t .held) v; turning = t .turning })) t)
-          ≡ cond b
-              (cond loops
-                (record { given = g ++ items 0 (t .held); held = t .held .len; turning = items 0 (t .turning) ++ v ∷ [] })
-                (record { given = (g ++ items 0 (t .held)) ++ v ∷ []; held = t .held .len + 1; turning = items 0 (t .turning) }))
-              (transmitter-of g t)) [
-        true ↦ λ e. let s = ltb-true (filling t) most e in
-          elim loops as (λ b. transmitter-of g (cond b (record { held = t .held; turning = pushed (t .turning) v }) (record { held = pushed (t .held) v; turning = t .turning }))
+      → transmitter-of g (cond b
+      (cond loops (record { held = t .held; turning = pushed (t .turning) v }) (record { held = pushed (t .held) v; turning = t .turning })) t)
+      ≡ cond b
+      (cond loops
+      (record { given = g ++ items 0 (t .held); held = t .held .len; turning = items 0 (t .turning) ++ v ∷ [] })
+      (record { given = (g ++ items 0 (t .held)) ++ v ∷ []; held = t .held .len + 1; turning = items 0 (t .turning) }))
+      (transmitter-of g t)) [
+        | true ↦ λ e. let s = ltb-true (filling t) most e in
+            elim loops as (λ b. transmitter-of g (cond b (record { held = t .held; turning = pushed (t .turning) v }) (record { held = pushed (t .held) v; turning = t .turning }))
             ≡ cond b
-                (record { given = g ++ items 0 (t .held); held = t .held .len; turning = items 0 (t .turning) ++ v ∷ [] })
-                (record { given = (g ++ items 0 (t .held)) ++ v ∷ []; held = t .held .len + 1; turning = items 0 (t .turning) })) [
-            true ↦ transmitter-path _ _ _ _ _ _ refl refl (items-pushed 0 (t .turning) v (ok .1) (omega arith))
-          | false ↦ transmitter-path _ _ _ _ _ _
-              (ap (λ xs. g ++ xs) (items-pushed 0 (t .held) v (ok .0) (omega arith)) ∙ sym (append-assoc g (items 0 (t .held)) (v ∷ []))) refl refl ]
-      | false ↦ λ _. refl ] refl)
+            (record { given = g ++ items 0 (t .held); held = t .held .len; turning = items 0 (t .turning) ++ v ∷ [] })
+            (record { given = (g ++ items 0 (t .held)) ++ v ∷ []; held = t .held .len + 1; turning = items 0 (t .turning) })) [
+              | true ↦ transmitter-path _ _ _ _ _ _ refl refl (items-pushed 0 (t .turning) v (ok .1) (omega arith))
+              | false ↦ transmitter-path _ _ _ _ _ _
+                  (ap (λ xs. g ++ xs) (items-pushed 0 (t .held) v (ok .0) (omega arith)) ∙ sym (append-assoc g (items 0 (t .held)) (v ∷ []))) refl refl
+            ]
+        | false ↦ λ _. refl
+      ] refl)
 
   -- the held bytes are struck from those given
   pub struck-is : transmitter-of g (struck t) ≡ Rules·struck (transmitter-of g t)

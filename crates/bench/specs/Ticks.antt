@@ -55,7 +55,7 @@ pub passed-outside-sound : (p : Parts) → Parts·sound p → Parts·sound (pass
 passed-outside-sound p h =
     cond-both (beats (p .pace)) (leaving (paced p)) (paced p) (λ q. Parts·sound (with-tape q (older (p .tape))))
     (λ _. cond-both (can-leave (paced p)) (left-line (paced p)) (paced p) (λ q. Parts·sound (with-tape q (older (p .tape))))
-      (λ e. left-sound (paced p) e h) (λ _. h))
+    (λ e. left-sound (paced p) e h) (λ _. h))
     (λ _. h)
 
 pub ticked-sound : (p : Parts) → Parts·sound p → Parts·sound (ticked p)

@@ -34,11 +34,12 @@ carrying w = ltb 0 (w .core .transmitter .held .len) && (room (w .line) && accep
 -- the oldest held byte leaves, and arrives
 abbrev pub carried : Wired → Wired
 carried w =
-  let b : ℕ = item-at 0 (w .core .transmitter .held) 0 in
-  record
-    { core = record
-      { receiver = reaching (w .core) (unmarked b); transmitter = one-gone (w .core .transmitter); settings = w .core .settings; modem = w .core .modem }
-    ; line = line-written (w .line) b }
+    let b : ℕ = item-at 0 (w .core .transmitter .held) 0 in
+    record {
+      core = record
+          { receiver = reaching (w .core) (unmarked b); transmitter = one-gone (w .core .transmitter); settings = w .core .settings; modem = w .core .modem };
+      line = line-written (w .line) b;
+    }
 
 -- what happens before an access acts: every access is a beat
 abbrev pub wired-ticked : Wired → Wired

@@ -196,8 +196,11 @@ impl Core {
                 if self.settings.divisor_reached() {
                     self.settings.dll = value;
                 } else {
-                    self.transmitter
-                        .send(self.settings.looping(), self.settings.fifos.capacity(), value);
+                    self.transmitter.send(
+                        self.settings.looping(),
+                        self.settings.fifos.capacity(),
+                        value,
+                    );
                 }
             }
             1 => {

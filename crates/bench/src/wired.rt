@@ -32,7 +32,9 @@ impl Wired {
         let byte = self.core.transmitter.held.get(0);
         self.core.transmitter.held.pop();
         self.line.put(byte);
-        self.core.receiver.reach(self.core.settings.fifos, unmarked(byte));
+        self.core
+            .receiver
+            .reach(self.core.settings.fifos, unmarked(byte));
     }
 
     /// What happens before an access acts.

@@ -13,4 +13,5 @@ returns c =
     let t = c .tick .ensures in
     record {
       value = c .read .ensures .value ∙ ap (λ (p : Parts). answer (p .core) (c .args .offset)) t;
-      state = ap (λ s. with-core (c .tick .last .self) s) (c .read .ensures .state) ∙ ap (λ (p : Parts). with-core p (answered (p .core) (c .args .offset))) t }
+      state = ap (λ s. with-core (c .tick .last .self) s) (c .read .ensures .state) ∙ ap (λ (p : Parts). with-core p (answered (p .core) (c .args .offset))) t;
+    }
