@@ -1,19 +1,18 @@
 -- What each register does is what the rules say.
-use Prim.Native.Nat.{ℕ, _+_, _-_, _<_, _≤_}
+use Prim.Native.Nat.{ℕ}
 use mathlib.Core.Bool.{Bool, true, false, cond, not, _&&_}
 use mathlib.Core.List.{List}
 use mathlib.Core.Path.{_≡_, refl, sym, ap, _∙_, subst}
-use Rattle.std.proofs.shelf.Tests.{cond-true, cond-false, cond-both}
 use Rattle.registers.specs.Flags.{contains, fifo-enable, rx-fifo-reset, tx-fifo-reset, loop-back}
 use Rattle.backends.specs.declared.character.Character.{Character}
-use Rattle.backends.specs.Chip.{Chip·state, Receiver as Rules·receiver, Transmitter as Rules·transmitter, Setup, is-on, capacity, looping, with-transmitter}
-use Rattle.backends.specs.Rules.{Reads, Writes, Takes, Status, Shows·fifos, sent as Rules·sent, struck as Rules·struck, emptied as Rules·emptied, unlooped as Rules·unlooped, controlled as Rules·controlled, switched as Rules·switched, reset as Rules·reset}
+use Rattle.backends.specs.Chip.{Chip·state, Receiver as Rules·receiver, Transmitter as Rules·transmitter, Setup, is-on, capacity, with-transmitter}
+use Rattle.backends.specs.Rules.{Reads, Writes, Takes, Status, Shows·fifos, struck as Rules·struck, emptied as Rules·emptied, unlooped as Rules·unlooped, controlled as Rules·controlled, switched as Rules·switched, reset as Rules·reset}
 use Rattle.bench.specs.declared.core.Core.{Core}
 use Rattle.bench.specs.declared.settings.Fifos.{Fifos}
 use Rattle.bench.specs.declared.settings.Fifos.the-variants.{Absent, Off, On}
 use Rattle.bench.specs.Core.{answer, answered, controlled, switched, reset, written, with-settings, with-transmitter as chip-with}
 use Rattle.bench.specs.Kept.{capacity-most}
-use Rattle.bench.specs.Meaning.{chip-of, receiver-of, transmitter-of, setup-of}
+use Rattle.bench.specs.Meaning.{chip-of, receiver-of, transmitter-of}
 use Rattle.bench.specs.Receiver.{waiting, emptied}
 use Rattle.bench.specs.Settings.{mode, loops, with-dll, with-dlm, with-ier}
 use Rattle.bench.specs.Sound.{Transmitter·sound}

@@ -1,10 +1,10 @@
 -- A plug: what moves before an access moves as the rules say.
-use Prim.Native.Nat.{ℕ, _+_, _-_, _<_, _≤_}
+use Prim.Native.Nat.{_-_}
 use native.Mathlib.Omega.{arith}
 use denote.Struct.Props.{props}
-use mathlib.Core.Bool.{Bool, true, false, cond, _&&_}
+use mathlib.Core.Bool.{true, false, cond, _&&_}
 use mathlib.Core.HLevel.{isProp→PathP}
-use mathlib.Core.List.{List, [], _∷_, _++_, map}
+use mathlib.Core.List.{[], _∷_, map}
 use mathlib.Core.Path.{_≡_, refl, sym, ap, _∙_, subst}
 use lib.Dec.{ltb}
 use Rattle.std.proofs.shelf.Lists.{map-push}
@@ -16,7 +16,7 @@ use Rattle.bench.specs.declared.wired.Wired.{Wired}
 use Rattle.bench.specs.Core.{Fits, accepting, reaching, turned}
 use Rattle.bench.specs.Kept.{sound-fits}
 use Rattle.bench.specs.Line.{gone, room}
-use Rattle.bench.specs.Meaning.{chip-of, receiver-of, transmitter-of}
+use Rattle.bench.specs.Meaning.{receiver-of, transmitter-of}
 use Rattle.bench.specs.Plug.{wired-meaning}
 use Rattle.bench.specs.Ring.{item-at}
 use Rattle.bench.specs.Settings.{mode, loops}

@@ -1,31 +1,31 @@
 -- What moves before an access moves as the rules say.
-use Prim.Native.Nat.{ℕ, zero, suc, _+_, _-_, _<_, _≤_, min}
+use Prim.Native.Nat.{ℕ, zero, suc, _-_, _<_, _≤_}
 use native.Mathlib.Omega.{arith}
-use mathlib.Core.Bool.{Bool, true, false, cond, _&&_}
-use mathlib.Core.List.{List, [], _∷_, _++_, append-nil}
+use mathlib.Core.Bool.{true, false, cond, _&&_}
+use mathlib.Core.List.{List, [], _∷_, append-nil}
 use mathlib.Core.Path.{_≡_, refl, sym, ap, _∙_, subst}
-use lib.Dec.{ltb, leb}
-use lib.ListN.{length, take, drop}
+use lib.Dec.{ltb}
+use lib.ListN.{take}
 use Rattle.std.proofs.shelf.Lists.{map-more}
-use Rattle.std.proofs.shelf.Tests.{ltb-true, and-parts, cond-true, cond-false, both-ways}
-use Rattle.std.specs.Of.Vec.{vec-len, vec-items}
+use Rattle.std.proofs.shelf.Tests.{ltb-true, and-parts, cond-true, cond-false}
+use Rattle.std.specs.Of.Vec.{vec-items}
 use Rattle.backends.specs.declared.character.Character.{Character}
-use Rattle.backends.specs.Chip.{Chip·state, Receiver as Rules·receiver, Transmitter as Rules·transmitter, Setup, looping, with-transmitter, with-receiver}
-use Rattle.backends.specs.Rules.{arrive, reach, come-round, unmarked, Line·moved, Loop·moved, Moved}
+use Rattle.backends.specs.Chip.{Chip·state, with-transmitter}
+use Rattle.backends.specs.Rules.{arrive, come-round, unmarked, Line·moved, Loop·moved, Moved}
 use Rattle.bench.specs.declared.core.Core.{Core}
 use Rattle.bench.specs.declared.parts.Parts.{Parts}
 use Rattle.bench.specs.Bench.{parts-meaning}
 use Rattle.bench.specs.Core.{accepting, reaching, turned}
 use Rattle.bench.specs.Items.{items-popped, length-items}
 use Rattle.bench.specs.Line.{gone, room}
-use Rattle.bench.specs.Meaning.{chip-of, receiver-of, transmitter-of, setup-of}
-use Rattle.bench.specs.Pace.{beats, passed}
+use Rattle.bench.specs.Meaning.{chip-of, receiver-of, transmitter-of}
+use Rattle.bench.specs.Pace.{beats}
 use Rattle.bench.specs.Parts.{Parts·sound, arriving, arrives, runs, filled, left-line, can-leave, leaving, paced, beaten, passed-looping, passed-outside, ticked}
 use Rattle.bench.specs.Receiver.{blank, reached}
-use Rattle.bench.specs.Ring.{item-at, items}
+use Rattle.bench.specs.Ring.{item-at}
 use Rattle.bench.specs.Settings.{mode, loops}
 use Rattle.bench.specs.Sound.{Sound}
-use Rattle.bench.specs.Tape.{entry, left, came, over, advanced}
+use Rattle.bench.specs.Tape.{entry, left, came}
 use Rattle.bench.specs.Ticks.{arriving-more, arrives-sound, passed-outside-sound}
 use Rattle.bench.specs.Transmitter.{one-round, one-gone}
 use Rattle.bench.proofs.Acts.{chip-path}

@@ -1,11 +1,11 @@
 -- The transmitter's steps are the rules' steps of what it means.
 use Prim.Native.Nat.{ℕ, _+_, _-_, _<_, _≤_, min}
 use native.Mathlib.Omega.{arith}
-use mathlib.Core.Bool.{Bool, true, false, cond, _&&_}
+use mathlib.Core.Bool.{Bool, true, false, cond}
 use mathlib.Core.List.{List, [], _∷_, _++_, append-assoc, append-nil}
 use mathlib.Core.Path.{_≡_, refl, sym, ap, _∙_}
-use lib.Dec.{ltb, eqb}
-use lib.ListN.{length, take, drop, length-append}
+use lib.Dec.{ltb}
+use lib.ListN.{length, drop, length-append}
 use Rattle.std.proofs.shelf.Lists.{take-more-set, take-at}
 use Rattle.std.proofs.shelf.Tests.{ltb-true}
 use Rattle.std.specs.Of.Vec.{vec-len, vec-items}
@@ -16,7 +16,7 @@ use Rattle.bench.specs.declared.transmitter.Transmitter.{Transmitter}
 use Rattle.bench.specs.Items.{items-pushed, items-popped, length-items}
 use Rattle.bench.specs.Line.{gone, room, written}
 use Rattle.bench.specs.Meaning.{transmitter-of}
-use Rattle.bench.specs.Ring.{Ring·ok, items, item-at, popped, pushed}
+use Rattle.bench.specs.Ring.{items, item-at, popped, pushed}
 use Rattle.bench.specs.Sound.{Transmitter·sound}
 use Rattle.bench.specs.Transmitter.{filling, sent, struck, one-gone, one-round}
 

@@ -1,5 +1,5 @@
 -- Each step of the chip keeps it sound.
-use Prim.Native.Nat.{ℕ, zero, suc, _+_, _-_, _<_, _≤_}
+use Prim.Native.Nat.{ℕ, _+_, _-_, _<_, _≤_}
 use native.Mathlib.Omega.{arith}
 use mathlib.Core.Bool.{Bool, true, false, cond, not, _&&_}
 use mathlib.Core.List.{List, [], _∷_, _++_}
@@ -7,7 +7,7 @@ use mathlib.Core.Path.{_≡_, refl, sym, ap, subst, _∙_}
 use lib.Dec.{ltb, eqb}
 use lib.ListN.{length}
 use Rattle.std.proofs.shelf.Lists.{nil-from-length}
-use Rattle.std.proofs.shelf.Tests.{ltb-true, ltb-false, eqb-false, eqb-true, cond-both, and-parts}
+use Rattle.std.proofs.shelf.Tests.{ltb-true, ltb-false, eqb-false, eqb-true, cond-both}
 use Rattle.registers.specs.Flags.{contains, fifo-enable, rx-fifo-reset, tx-fifo-reset, loop-back}
 use Rattle.backends.specs.declared.character.Character.{Character}
 use Rattle.backends.specs.declared.character.Counts.{Counts}
@@ -18,15 +18,15 @@ use Rattle.bench.specs.declared.receiver.Receiver.{Receiver}
 use Rattle.bench.specs.declared.transmitter.Transmitter.{Transmitter}
 use Rattle.bench.specs.declared.settings.Fifos.{Fifos}
 use Rattle.bench.specs.declared.settings.Fifos.the-variants.{Absent, Off, On}
-use Rattle.bench.specs.Ring.{Ring·ok, items, item-at, pushed, popped, cleared}
+use Rattle.bench.specs.Ring.{items, item-at, pushed, popped, cleared}
 use Rattle.bench.specs.Items.{items-pushed, items-popped, items-alone, length-items, pushed-ok, popped-ok, cleared-ok}
-use Rattle.bench.specs.Receiver.{Room, waiting, blank, reached, taken, emptied, noticed}
-use Rattle.bench.specs.Transmitter.{filling, sent, struck, unlooped, one-round, one-gone}
+use Rattle.bench.specs.Receiver.{waiting, blank, reached, taken, emptied, noticed}
+use Rattle.bench.specs.Transmitter.{filling, sent, struck, unlooped}
 use Rattle.bench.specs.Settings.{mode, loops, reaches-divisor, scratch-kept, with-lcr, with-dll}
 use Rattle.bench.specs.Core.{Fits, accepting, turned, data-answered, answered, controlled, switched, reset, modem-controlled, data-written, interrupts-kept, written, with-receiver, with-transmitter, with-settings, with-modem}
 use Rattle.bench.specs.Modem.{unchanged}
 use Rattle.bench.specs.Table.{entry-of}
-use Rattle.bench.specs.Sound.{one, marks, behind, Within, Counted, Receiver·sound, Transmitter·sound, Sound}
+use Rattle.bench.specs.Sound.{one, marks, Within, Counted, Receiver·sound, Transmitter·sound, Sound}
 
 -- what is true of each entry is true of the one that is taken
 each-entry : {A : Type 0} (P : A → Type 0) (k : ℕ) (a b c d e f g h : A) → P a → P b → P c → P d → P e → P f → P g → P h → P (entry-of k a b c d e f g h)

@@ -1,14 +1,12 @@
 -- What the tape, the line and the pace do before an access acts.
-use Prim.Native.Nat.{ℕ, zero, suc, _+_, _-_, _<_, _≤_, min}
+use Prim.Native.Nat.{ℕ, zero, suc, _≤_, min}
 use mathlib.Core.Bool.{Bool, cond, _&&_}
 use lib.Dec.{ltb}
 use Rattle.std.specs.Of.Vec.{vec-len}
-use Rattle.backends.specs.declared.character.Character.{Character}
 use Rattle.bench.specs.declared.core.Core.{Core}
 use Rattle.bench.specs.declared.parts.Parts.{Parts}
 use Rattle.bench.specs.declared.tape.Tape.{Tape}
 use Rattle.bench.specs.declared.line.Line.{Line}
-use Rattle.bench.specs.declared.pace.Pace.{Pace}
 use Rattle.bench.specs.Ring.{item-at}
 use Rattle.bench.specs.Settings.{loops}
 use Rattle.bench.specs.Transmitter.{one-gone}

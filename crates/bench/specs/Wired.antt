@@ -1,11 +1,9 @@
 -- A chip whose line leads back to it: what the line does before an access acts.
-use Prim.Native.Nat.{ℕ, _+_, _<_, _≤_, min}
-use native.Mathlib.Omega.{arith}
-use mathlib.Core.Bool.{Bool, true, false, cond, _&&_}
+use Prim.Native.Nat.{ℕ, _+_}
+use mathlib.Core.Bool.{Bool, true, cond, _&&_}
 use mathlib.Core.Path.{_≡_}
 use lib.Dec.{ltb}
 use Rattle.std.proofs.shelf.Tests.{and-parts, cond-both}
-use Rattle.std.specs.Of.Vec.{vec-len}
 use Rattle.backends.specs.Rules.{unmarked}
 use Rattle.bench.specs.declared.core.Core.{Core}
 use Rattle.bench.specs.declared.wired.Wired.{Wired}

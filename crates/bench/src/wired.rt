@@ -1,6 +1,6 @@
 //! A chip whose line leads back to it, and what the line does before an access.
 
-ghost use Prim.Native.Nat.{ℕ, _+_, _<_, _≤_, _^_};
+ghost use Prim.Native.Nat.{ℕ};
 ghost use Rattle.bench.specs.Core.{answer};
 ghost use Rattle.bench.specs.Wired.{Wired·sound, carrying, carried, wired-ticked, wired-read, wired-written};
 ghost use mathlib.Core.Bool.{true};

@@ -4,7 +4,6 @@ use mathlib.Core.Path.{_≡_, ap, _∙_}
 use lib.Bits.{bitOr}
 use Rattle.registers.specs.Modem.{Line·changes}
 use Rattle.bench.specs.Modem.{line-changes, lines}
-use Rattle.bench.specs.declared.modem.Modem.{Modem}
 use Rattle.bench.proofs.modem.Modem.latch.Needs as need
 
 four-bits : (r : ℕ) → r < 16 → r ≡ r % 2 + 2 * (r / 2 % 2) + 4 * (r / 4 % 2) + 8 * (r / 8 % 2)

@@ -1,6 +1,6 @@
-use mathlib.Core.Path.{_≡_, sym, subst, ap, _∙_}
+use mathlib.Core.Path.{sym, subst, ap, _∙_}
 use Rattle.bench.specs.Core.{Fits, answer, answered}
-use Rattle.bench.specs.Parts.{parts-read, with-core}
+use Rattle.bench.specs.Parts.{with-core}
 use Rattle.bench.specs.declared.parts.Parts.{Parts}
 use Rattle.bench.proofs.Ticked.{ticked-fits}
 use Rattle.bench.proofs.parts.Parts.read.Needs as need
