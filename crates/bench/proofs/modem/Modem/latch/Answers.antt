@@ -25,4 +25,4 @@ returns c =
     let m = c .args .self .now in
     ap (λ n. record { fixed = m .fixed; changes = bitOr (m .changes) n })
     (changes-are _ _ _ (c .modem-line-changes .ensures)
-    ∙ ap (λ n. line-changes n (c .lines-2 .result)) (c .lines .ensures) ∙ ap (λ n. line-changes (lines m (c .args .old)) n) (c .lines-2 .ensures))
+    ∙ ap (λ n. line-changes n (c .lines-after .result)) (c .lines-before .ensures) ∙ ap (λ n. line-changes (lines m (c .args .old)) n) (c .lines-after .ensures))
