@@ -1,10 +1,10 @@
 -- A plug: what moves before an access moves as the rules say.
-use Prim.Native.Nat.{ℕ, _+_, _-_, _<_, _≤_}
+use Prim.Native.Nat.{_-_}
 use native.Mathlib.Omega.{arith}
 use denote.Struct.Props.{props}
-use mathlib.Core.Bool.{Bool, true, false, cond, _&&_}
+use mathlib.Core.Bool.{true, false, cond, _&&_}
 use mathlib.Core.HLevel.{isProp→PathP}
-use mathlib.Core.List.{List, [], _∷_, _++_, map}
+use mathlib.Core.List.{[], _∷_, map}
 use mathlib.Core.Path.{_≡_, refl, sym, ap, _∙_, subst}
 use lib.Dec.{ltb}
 use Rattle.std.proofs.shelf.Lists.{map-push}
@@ -16,7 +16,7 @@ use Rattle.bench.specs.declared.wired.Wired.{Wired}
 use Rattle.bench.specs.Core.{Fits, accepting, reaching, turned}
 use Rattle.bench.specs.Kept.{sound-fits}
 use Rattle.bench.specs.Line.{gone, room}
-use Rattle.bench.specs.Meaning.{chip-of, receiver-of, transmitter-of}
+use Rattle.bench.specs.Meaning.{receiver-of, transmitter-of}
 use Rattle.bench.specs.Plug.{wired-meaning}
 use Rattle.bench.specs.Ring.{item-at}
 use Rattle.bench.specs.Settings.{mode, loops}
@@ -53,10 +53,11 @@ carried-moves w h e =
       gone = 1;
       enough = omega arith;
       after = chip-path _ _ _ _ _
-        (ap (λ bs. receiver-of (map unmarked bs) (reaching (w .core) c)) more
+          (ap (λ bs. receiver-of (map unmarked bs) (reaching (w .core) c)) more
           ∙ ap (λ cs. receiver-of cs (reaching (w .core) c)) (map-push unmarked (gone (w .line)) b)
           ∙ reach-is f c (w .core .receiver) (h .0 .0) (map unmarked (gone (w .line))) (c ∷ []))
-        (ap (λ bs. transmitter-of bs (one-gone t)) more ∙ one-gone-is t (h .0 .2, h .0 .3) (gone (w .line)) l) }
+          (ap (λ bs. transmitter-of bs (one-gone t)) more ∙ one-gone-is t (h .0 .2, h .0 .3) (gone (w .line)) l);
+    }
 
 none-moved : (m : Chip·state) → Line·moved m m
 none-moved m =
@@ -66,12 +67,15 @@ none-moved m =
       arrivals = [];
       gone = 0;
       enough = omega arith;
-      after = ap (λ n. record { receiver = m .receiver; transmitter = record { given = t .given; held = n; turning = t .turning }; setup = m .setup }) e }
+      after = ap (λ n. record { receiver = m .receiver; transmitter = record { given = t .given; held = n; turning = t .turning }; setup = m .setup }) e;
+    }
 
 line-moves : (w : Wired) → Wired·sound w → Line·moved (wired-meaning w) (wired-meaning (cond (carrying w) (carried w) w))
 line-moves w h =
     elim (carrying w) as (λ b. carrying w ≡ b → Line·moved (wired-meaning w) (wired-meaning (cond b (carried w) w))) [
-      true ↦ carried-moves w h | false ↦ λ _. none-moved (wired-meaning w) ] refl
+      | true ↦ carried-moves w h
+      | false ↦ λ _. none-moved (wired-meaning w)
+    ] refl
 
 pub wired-moves : (w : Wired) → Wired·sound w → Moved (wired-meaning w) (wired-meaning (wired-ticked w))
 wired-moves w h =
@@ -80,4 +84,5 @@ wired-moves w h =
     record {
       line = λ e. subst (λ q. Line·moved (wired-meaning w) (wired-meaning q)) (sym (cond-false (loops (w .core .settings)) a b e)) (line-moves w h);
       loop = λ e. subst (λ q. Loop·moved (wired-meaning w) (wired-meaning q)) (sym (cond-true (loops (w .core .settings)) a b e))
-        (turned-is (map unmarked (gone (w .line))) (gone (w .line)) (w .core) (w .line .left) (h .0)) }
+          (turned-is (map unmarked (gone (w .line))) (gone (w .line)) (w .core) (w .line .left) (h .0));
+    }

@@ -1,11 +1,11 @@
 -- The transmitter's steps are the rules' steps of what it means.
 use Prim.Native.Nat.{ℕ, _+_, _-_, _<_, _≤_, min}
 use native.Mathlib.Omega.{arith}
-use mathlib.Core.Bool.{Bool, true, false, cond, _&&_}
+use mathlib.Core.Bool.{Bool, true, false, cond}
 use mathlib.Core.List.{List, [], _∷_, _++_, append-assoc, append-nil}
 use mathlib.Core.Path.{_≡_, refl, sym, ap, _∙_}
-use lib.Dec.{ltb, eqb}
-use lib.ListN.{length, take, drop, length-append}
+use lib.Dec.{ltb}
+use lib.ListN.{length, drop, length-append}
 use Rattle.std.proofs.shelf.Lists.{take-more-set, take-at}
 use Rattle.std.proofs.shelf.Tests.{ltb-true}
 use Rattle.std.specs.Of.Vec.{vec-len, vec-items}
@@ -16,7 +16,7 @@ use Rattle.bench.specs.declared.transmitter.Transmitter.{Transmitter}
 use Rattle.bench.specs.Items.{items-pushed, items-popped, length-items}
 use Rattle.bench.specs.Line.{gone, room, written}
 use Rattle.bench.specs.Meaning.{transmitter-of}
-use Rattle.bench.specs.Ring.{Ring·ok, items, item-at, popped, pushed}
+use Rattle.bench.specs.Ring.{items, item-at, popped, pushed}
 use Rattle.bench.specs.Sound.{Transmitter·sound}
 use Rattle.bench.specs.Transmitter.{filling, sent, struck, one-gone, one-round}
 
@@ -39,22 +39,24 @@ module _ (t : Transmitter) (ok : Transmitter·sound t) (g : List ℕ) where
       let k = length-items 0 (t .turning) in
       simp k
       (elim (ltb (filling t) most) as (λ b. ltb (filling t) most ≡ b
-          → transmitter-of g (cond b
-              (cond loops (record { held = t .held; turning = pushed (t .turning) v }) (record { held = pushed (t .held) v; turning = t .turning })) t)
-          ≡ cond b
-              (cond loops
-                (record { given = g ++ items 0 (t .held); held = t .held .len; turning = items 0 (t .turning) ++ v ∷ [] })
-                (record { given = (g ++ items 0 (t .held)) ++ v ∷ []; held = t .held .len + 1; turning = items 0 (t .turning) }))
-              (transmitter-of g t)) [
-        true ↦ λ e. let s = ltb-true (filling t) most e in
-          elim loops as (λ b. transmitter-of g (cond b (record { held = t .held; turning = pushed (t .turning) v }) (record { held = pushed (t .held) v; turning = t .turning }))
+      → transmitter-of g (cond b
+      (cond loops (record { held = t .held; turning = pushed (t .turning) v }) (record { held = pushed (t .held) v; turning = t .turning })) t)
+      ≡ cond b
+      (cond loops
+      (record { given = g ++ items 0 (t .held); held = t .held .len; turning = items 0 (t .turning) ++ v ∷ [] })
+      (record { given = (g ++ items 0 (t .held)) ++ v ∷ []; held = t .held .len + 1; turning = items 0 (t .turning) }))
+      (transmitter-of g t)) [
+        | true ↦ λ e. let s = ltb-true (filling t) most e in
+            elim loops as (λ b. transmitter-of g (cond b (record { held = t .held; turning = pushed (t .turning) v }) (record { held = pushed (t .held) v; turning = t .turning }))
             ≡ cond b
-                (record { given = g ++ items 0 (t .held); held = t .held .len; turning = items 0 (t .turning) ++ v ∷ [] })
-                (record { given = (g ++ items 0 (t .held)) ++ v ∷ []; held = t .held .len + 1; turning = items 0 (t .turning) })) [
-            true ↦ transmitter-path _ _ _ _ _ _ refl refl (items-pushed 0 (t .turning) v (ok .1) (omega arith))
-          | false ↦ transmitter-path _ _ _ _ _ _
-              (ap (λ xs. g ++ xs) (items-pushed 0 (t .held) v (ok .0) (omega arith)) ∙ sym (append-assoc g (items 0 (t .held)) (v ∷ []))) refl refl ]
-      | false ↦ λ _. refl ] refl)
+            (record { given = g ++ items 0 (t .held); held = t .held .len; turning = items 0 (t .turning) ++ v ∷ [] })
+            (record { given = (g ++ items 0 (t .held)) ++ v ∷ []; held = t .held .len + 1; turning = items 0 (t .turning) })) [
+              | true ↦ transmitter-path _ _ _ _ _ _ refl refl (items-pushed 0 (t .turning) v (ok .1) (omega arith))
+              | false ↦ transmitter-path _ _ _ _ _ _
+                  (ap (λ xs. g ++ xs) (items-pushed 0 (t .held) v (ok .0) (omega arith)) ∙ sym (append-assoc g (items 0 (t .held)) (v ∷ []))) refl refl
+            ]
+        | false ↦ λ _. refl
+      ] refl)
 
   -- the held bytes are struck from those given
   pub struck-is : transmitter-of g (struck t) ≡ Rules·struck (transmitter-of g t)

@@ -1,11 +1,10 @@
 -- The line status shows what the rules say.
-use Prim.Native.Nat.{ℕ, _+_, _-_, _<_}
+use Prim.Native.Nat.{ℕ, _+_}
 use native.Mathlib.Omega.{arith}
 use mathlib.Core.Bool.{Bool, true, false, cond, not, _&&_}
-use mathlib.Core.List.{List, [], _∷_}
+use mathlib.Core.List.{List}
 use mathlib.Core.Path.{_≡_, refl, sym, ap, _∙_}
 use lib.Dec.{ltb, eqb}
-use lib.ListN.{length}
 use Rattle.std.proofs.shelf.Lists.{nil-from-length}
 use Rattle.std.proofs.shelf.Tests.{and-parts, ltb-true, ltb-false}
 use Rattle.registers.specs.Flags.{contains}
@@ -64,8 +63,9 @@ rights a b c d e i z =
 some-wait-is : (q : Ring Character) → ltb 0 (q .len) ≡ some-wait (items blank q)
 some-wait-is q =
     elim (ltb 0 (q .len)) as (λ t. ltb 0 (q .len) ≡ t → t ≡ some-wait (items blank q)) [
-      true ↦ λ e. ap some-wait (sym (items-popped blank q (ltb-true 0 (q .len) e)))
-    | false ↦ λ e. ap some-wait (sym (nil-from-length (items blank q) (length-items blank q ∙ omega (arith, ltb-false 0 (q .len) e)))) ] refl
+      | true ↦ λ e. ap some-wait (sym (items-popped blank q (ltb-true 0 (q .len) e)))
+      | false ↦ λ e. ap some-wait (sym (nil-from-length (items blank q) (length-items blank q ∙ omega (arith, ltb-false 0 (q .len) e))))
+    ] refl
 
 pub status-is : (came : List Character) (gone : List ℕ) (s : Core) → Status (chip-of came gone s) (status s)
 status-is came gone s =
@@ -73,7 +73,7 @@ status-is came gone s =
     let v = status s in
     let i = eqb (filling (s .transmitter)) 0 in
     let h0 = and-parts _ _ (rights (ltb 0 (r .queue .len)) (ltb (r .seen .lost) (r .counts .lost)) (ltb (r .seen .parity) (r .counts .parity))
-        (ltb (r .seen .framing) (r .counts .framing)) (ltb (r .seen .broken) (r .counts .broken)) i (data-error (mode (s .settings .fifos)) (waiting r))) in
+    (ltb (r .seen .framing) (r .counts .framing)) (ltb (r .seen .broken) (r .counts .broken)) i (data-error (mode (s .settings .fifos)) (waiting r))) in
     let h1 = and-parts _ _ (h0 .1) in
     let h2 = and-parts _ _ (h1 .1) in
     let h3 = and-parts _ _ (h2 .1) in
@@ -87,4 +87,5 @@ status-is came gone s =
       framing = same-true _ _ (h3 .0);
       broken = same-true _ _ (h4 .0);
       room = same-true _ _ (h5 .0) ∙ l;
-      empty = λ e. sym l ∙ sym (same-true _ _ (h5 .1)) ∙ e }
+      empty = λ e. sym l ∙ sym (same-true _ _ (h5 .1)) ∙ e;
+    }

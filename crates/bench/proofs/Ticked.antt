@@ -1,5 +1,4 @@
 -- What an access finds, and when two benches are one.
-use Prim.Native.Nat.{ℕ, _≤_}
 use native.Mathlib.Omega.{arith}
 use denote.Struct.Props.{props}
 use mathlib.Core.HLevel.{isProp→PathP}

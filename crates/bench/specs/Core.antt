@@ -1,6 +1,6 @@
 -- The chip itself: what each access does once the line has moved.
-use Prim.Native.Nat.{ℕ, _+_, _-_, _<_, _≤_}
-use mathlib.Core.Bool.{Bool, true, false, cond, not, _&&_}
+use Prim.Native.Nat.{ℕ}
+use mathlib.Core.Bool.{Bool, cond, not, _&&_}
 use mathlib.Core.List.{List}
 use lib.Bits.{bitOr}
 use lib.Dec.{ltb, eqb}
@@ -50,12 +50,13 @@ reaching s c = reached (mode (s .settings .fifos)) c (s .receiver)
 -- in loop mode the oldest byte comes round
 abbrev pub turned : Core → Core
 turned s =
-  cond (ltb 0 (s .transmitter .turning .len) && accepting s)
-    (record
-      { receiver = reaching s (unmarked (item-at 0 (s .transmitter .turning) 0))
-      ; transmitter = one-round (s .transmitter)
-      ; settings = s .settings
-      ; modem = s .modem })
+    cond (ltb 0 (s .transmitter .turning .len) && accepting s)
+    (record {
+      receiver = reaching s (unmarked (item-at 0 (s .transmitter .turning) 0));
+      transmitter = one-round (s .transmitter);
+      settings = s .settings;
+      modem = s .modem;
+    })
     s
 
 -- Reads
@@ -67,20 +68,20 @@ data-error f cs = is-on f && any-marked cs
 -- the line status of these tests
 abbrev pub status-byte : Bool → Bool → Bool → Bool → Bool → Bool → Bool → ℕ
 status-byte ready overrun parity framing broken idle error =
-  bitOr (bitOr (bitOr (bitOr (bitOr (bitOr
+    bitOr (bitOr (bitOr (bitOr (bitOr (bitOr
     (flagged ready 0x01) (flagged overrun 0x02)) (flagged parity 0x04)) (flagged framing 0x08)) (flagged broken 0x10))
     (flagged idle 0x60)) (flagged error 0x80)
 
 -- the line status: bits 5 and 6 agree
 abbrev pub status : Core → ℕ
 status s = status-byte
-  (ltb 0 (s .receiver .queue .len))
-  (ltb (s .receiver .seen .lost) (s .receiver .counts .lost))
-  (ltb (s .receiver .seen .parity) (s .receiver .counts .parity))
-  (ltb (s .receiver .seen .framing) (s .receiver .counts .framing))
-  (ltb (s .receiver .seen .broken) (s .receiver .counts .broken))
-  (eqb (filling (s .transmitter)) 0)
-  (data-error (mode (s .settings .fifos)) (waiting (s .receiver)))
+    (ltb 0 (s .receiver .queue .len))
+    (ltb (s .receiver .seen .lost) (s .receiver .counts .lost))
+    (ltb (s .receiver .seen .parity) (s .receiver .counts .parity))
+    (ltb (s .receiver .seen .framing) (s .receiver .counts .framing))
+    (ltb (s .receiver .seen .broken) (s .receiver .counts .broken))
+    (eqb (filling (s .transmitter)) 0)
+    (data-error (mode (s .settings .fifos)) (waiting (s .receiver)))
 
 -- no interrupt, and whether the FIFOs are on
 abbrev pub interrupts-shown : Settings → ℕ
@@ -96,26 +97,26 @@ data-answered s = cond (reaches-divisor (s .settings)) s (with-receiver s (taken
 -- the byte that a register gives
 abbrev pub answer : Core → ℕ → ℕ
 answer s k = entry-of k
-  (data-answer s)
-  (cond (reaches-divisor (s .settings)) (s .settings .dlm) (s .settings .ier))
-  (interrupts-shown (s .settings))
-  (s .settings .lcr)
-  (s .settings .mcr)
-  (status s)
-  (shown (s .modem) (s .settings .mcr))
-  (scratch-byte (s .settings .scratch))
+    (data-answer s)
+    (cond (reaches-divisor (s .settings)) (s .settings .dlm) (s .settings .ier))
+    (interrupts-shown (s .settings))
+    (s .settings .lcr)
+    (s .settings .mcr)
+    (status s)
+    (shown (s .modem) (s .settings .mcr))
+    (scratch-byte (s .settings .scratch))
 
 -- the chip after the read
 abbrev pub answered : Core → ℕ → Core
 answered s k = entry-of k
-  (data-answered s)
-  s
-  s
-  s
-  s
-  (with-receiver s (noticed (s .receiver)))
-  (with-modem s (unchanged (s .modem)))
-  s
+    (data-answered s)
+    s
+    s
+    s
+    s
+    (with-receiver s (noticed (s .receiver)))
+    (with-modem s (unchanged (s .modem)))
+    s
 
 -- Writes
 
@@ -125,11 +126,12 @@ switched f s = record { receiver = emptied (s .receiver); transmitter = struck (
 
 -- the FIFOs stay on: two bits empty one queue each
 abbrev pub reset : ℕ → Core → Core
-reset v s = record
-  { receiver = cond (contains v rx-fifo-reset) (emptied (s .receiver)) (s .receiver)
-  ; transmitter = cond (contains v tx-fifo-reset) (struck (s .transmitter)) (s .transmitter)
-  ; settings = s .settings
-  ; modem = s .modem }
+reset v s = record {
+  receiver = cond (contains v rx-fifo-reset) (emptied (s .receiver)) (s .receiver);
+  transmitter = cond (contains v tx-fifo-reset) (struck (s .transmitter)) (s .transmitter);
+  settings = s .settings;
+  modem = s .modem;
+}
 
 -- the FIFO control is written
 abbrev pub controlled : Fifos → ℕ → Core → Core
@@ -139,16 +141,17 @@ controlled On v s = cond (contains v fifo-enable) (reset v s) (switched Off s)
 
 -- the modem control is written
 abbrev pub modem-controlled : ℕ → Core → Core
-modem-controlled v s = record
-  { receiver = s .receiver
-  ; transmitter = cond (loops (s .settings) && not (contains v loop-back)) (unlooped (s .transmitter)) (s .transmitter)
-  ; settings = with-mcr (s .settings) v
-  ; modem = latched (s .modem) (s .settings .mcr) v }
+modem-controlled v s = record {
+  receiver = s .receiver;
+  transmitter = cond (loops (s .settings) && not (contains v loop-back)) (unlooped (s .transmitter)) (s .transmitter);
+  settings = with-mcr (s .settings) v;
+  modem = latched (s .modem) (s .settings .mcr) v;
+}
 
 -- offset 0 is written
 abbrev pub data-written : Core → ℕ → Core
 data-written s v =
-  cond (reaches-divisor (s .settings)) (with-settings s (with-dll (s .settings) v))
+    cond (reaches-divisor (s .settings)) (with-settings s (with-dll (s .settings) v))
     (with-transmitter s (sent (loops (s .settings)) (capacity (mode (s .settings .fifos))) v (s .transmitter)))
 
 -- the registers that only keep what is written: offsets 1, 3 and 7
@@ -158,11 +161,11 @@ interrupts-kept v g = cond (reaches-divisor g) (with-dlm g v) (with-ier g v)
 -- the chip after a write
 abbrev pub written : Core → ℕ → ℕ → Core
 written s k v = entry-of k
-  (data-written s v)
-  (with-settings s (interrupts-kept v (s .settings)))
-  (controlled (s .settings .fifos) v s)
-  (with-settings s (with-lcr (s .settings) v))
-  (modem-controlled v s)
-  s
-  s
-  (with-settings s (scratch-kept v (s .settings)))
+    (data-written s v)
+    (with-settings s (interrupts-kept v (s .settings)))
+    (controlled (s .settings .fifos) v s)
+    (with-settings s (with-lcr (s .settings) v))
+    (modem-controlled v s)
+    s
+    s
+    (with-settings s (scratch-kept v (s .settings)))

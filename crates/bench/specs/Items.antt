@@ -1,5 +1,5 @@
 -- The items of a ring after each step.
-use Prim.Native.Nat.{ℕ, zero, suc, _+_, _-_, _%_, _<_, _≤_}
+use Prim.Native.Nat.{ℕ, zero, suc, _+_, _-_, _%_, _<_}
 use native.Mathlib.Omega.{arith}
 use mathlib.Core.List.{List, [], _∷_, _++_}
 use mathlib.Core.Path.{_≡_, refl, sym, ap, _∙_}
@@ -24,7 +24,7 @@ module _ {A : Type 0} (d : A) where
       let e : from % 16 % 16 ≡ from % 16 = omega arith in
       let f : (from % 16 + 1) % 16 ≡ (from + 1) % 16 = omega arith in
       let t : items-from d cells (from % 16 + 1) n ≡ items-from d cells (from + 1) n =
-          sym (items-wrap cells (from % 16 + 1) n) ∙ ap (λ k. items-from d cells k n) f ∙ items-wrap cells (from + 1) n in
+      sym (items-wrap cells (from % 16 + 1) n) ∙ ap (λ k. items-from d cells k n) f ∙ items-wrap cells (from + 1) n in
       ap (λ k. getD cells k d ∷ items-from d cells (from % 16 + 1) n) e ∙ ap (λ xs. getD cells (from % 16) d ∷ xs) t
 
   -- the oldest item, then those that are left when it is taken out

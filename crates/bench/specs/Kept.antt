@@ -1,5 +1,5 @@
 -- Each step of the chip keeps it sound.
-use Prim.Native.Nat.{ℕ, zero, suc, _+_, _-_, _<_, _≤_}
+use Prim.Native.Nat.{ℕ, _+_, _-_, _<_, _≤_}
 use native.Mathlib.Omega.{arith}
 use mathlib.Core.Bool.{Bool, true, false, cond, not, _&&_}
 use mathlib.Core.List.{List, [], _∷_, _++_}
@@ -7,7 +7,7 @@ use mathlib.Core.Path.{_≡_, refl, sym, ap, subst, _∙_}
 use lib.Dec.{ltb, eqb}
 use lib.ListN.{length}
 use Rattle.std.proofs.shelf.Lists.{nil-from-length}
-use Rattle.std.proofs.shelf.Tests.{ltb-true, ltb-false, eqb-false, eqb-true, cond-both, and-parts}
+use Rattle.std.proofs.shelf.Tests.{ltb-true, ltb-false, eqb-false, eqb-true, cond-both}
 use Rattle.registers.specs.Flags.{contains, fifo-enable, rx-fifo-reset, tx-fifo-reset, loop-back}
 use Rattle.backends.specs.declared.character.Character.{Character}
 use Rattle.backends.specs.declared.character.Counts.{Counts}
@@ -18,15 +18,15 @@ use Rattle.bench.specs.declared.receiver.Receiver.{Receiver}
 use Rattle.bench.specs.declared.transmitter.Transmitter.{Transmitter}
 use Rattle.bench.specs.declared.settings.Fifos.{Fifos}
 use Rattle.bench.specs.declared.settings.Fifos.the-variants.{Absent, Off, On}
-use Rattle.bench.specs.Ring.{Ring·ok, items, item-at, pushed, popped, cleared}
+use Rattle.bench.specs.Ring.{items, item-at, pushed, popped, cleared}
 use Rattle.bench.specs.Items.{items-pushed, items-popped, items-alone, length-items, pushed-ok, popped-ok, cleared-ok}
-use Rattle.bench.specs.Receiver.{Room, waiting, blank, reached, taken, emptied, noticed}
-use Rattle.bench.specs.Transmitter.{filling, sent, struck, unlooped, one-round, one-gone}
+use Rattle.bench.specs.Receiver.{waiting, blank, reached, taken, emptied, noticed}
+use Rattle.bench.specs.Transmitter.{filling, sent, struck, unlooped}
 use Rattle.bench.specs.Settings.{mode, loops, reaches-divisor, scratch-kept, with-lcr, with-dll}
 use Rattle.bench.specs.Core.{Fits, accepting, turned, data-answered, answered, controlled, switched, reset, modem-controlled, data-written, interrupts-kept, written, with-receiver, with-transmitter, with-settings, with-modem}
 use Rattle.bench.specs.Modem.{unchanged}
 use Rattle.bench.specs.Table.{entry-of}
-use Rattle.bench.specs.Sound.{one, marks, behind, Within, Counted, Receiver·sound, Transmitter·sound, Sound}
+use Rattle.bench.specs.Sound.{one, marks, Within, Counted, Receiver·sound, Transmitter·sound, Sound}
 
 -- what is true of each entry is true of the one that is taken
 each-entry : {A : Type 0} (P : A → Type 0) (k : ℕ) (a b c d e f g h : A) → P a → P b → P c → P d → P e → P f → P g → P h → P (entry-of k a b c d e f g h)
@@ -84,16 +84,18 @@ grows-none b m = (omega arith, omega arith, omega arith)
 
 module _ (c : Character) (m m′ : ℕ) (g : Grows c m m′) where
   alone-counted : (n : Counts) (cs : List Character) → Counted n cs m → Counted (first c n) (c ∷ []) m′
-  alone-counted n cs h =
-      (omega (arith, alone-within (λ c. c .parity) (n .parity) m cs c (h .0)),
-      omega (arith, alone-within (λ c. c .framing) (n .framing) m cs c (h .1)),
-      omega (arith, alone-within (λ c. c .broken) (n .broken) m cs c (h .2)))
+  alone-counted n cs h = (
+    omega (arith, alone-within (λ c. c .parity) (n .parity) m cs c (h .0)),
+    omega (arith, alone-within (λ c. c .framing) (n .framing) m cs c (h .1)),
+    omega (arith, alone-within (λ c. c .broken) (n .broken) m cs c (h .2)),
+  )
 
   behind-counted : (n : Counts) (cs : List Character) → (length cs ≡ 0 → ⊥) → Counted n cs m → Counted n (cs ++ c ∷ []) m′
-  behind-counted n cs z h =
-      (omega (arith, behind-within (λ c. c .parity) (n .parity) m cs c z (h .0)),
-      omega (arith, behind-within (λ c. c .framing) (n .framing) m cs c z (h .1)),
-      omega (arith, behind-within (λ c. c .broken) (n .broken) m cs c z (h .2)))
+  behind-counted n cs z h = (
+    omega (arith, behind-within (λ c. c .parity) (n .parity) m cs c z (h .0)),
+    omega (arith, behind-within (λ c. c .framing) (n .framing) m cs c z (h .1)),
+    omega (arith, behind-within (λ c. c .broken) (n .broken) m cs c z (h .2)),
+  )
 
   more-counted : (n : Counts) (cs : List Character) → Counted n cs m → Counted n cs m′
   more-counted n cs h = (omega arith, omega arith, omega arith)
@@ -106,7 +108,7 @@ module _ (c : Character) (m m′ : ℕ) (g : Grows c m m′) where
       subst (λ cs. Counted (cond (eqb (r .queue .len) 0) (first c (r .counts)) (r .counts)) cs m′) (sym e)
       (cond-both (eqb (r .queue .len) 0) (first c (r .counts)) (r .counts) (λ n. Counted n (waiting r ++ c ∷ []) m′)
       (λ z. let none = nil-from-length (waiting r) (length-items blank (r .queue) ∙ eqb-true (r .queue .len) 0 z) in
-        subst (λ cs. Counted (first c (r .counts)) (cs ++ c ∷ []) m′) (sym none) (alone-counted (r .counts) (waiting r) (h .1)))
+      subst (λ cs. Counted (first c (r .counts)) (cs ++ c ∷ []) m′) (sym none) (alone-counted (r .counts) (waiting r) (h .1)))
       (λ z. behind-counted (r .counts) (waiting r) (λ y. eqb-false (r .queue .len) 0 z (sym (length-items blank (r .queue)) ∙ y)) (h .1)))
 
   pub reached-sound : (f : Mode) (r : Receiver) → Receiver·sound m r → Receiver·sound m′ (reached f c r)
@@ -115,11 +117,13 @@ module _ (c : Character) (m m′ : ℕ) (g : Grows c m m′) where
       let alone = items-alone blank (r .queue) c (h .0) in
       cond-both (ltb (r .queue .len) (capacity f)) _ _ P
       (λ e. let l : r .queue .len < 16 = omega (arith, ltb-true (r .queue .len) (capacity f) e, capacity-most f) in
-        (pushed-ok (r .queue) c (h .0) l, joins-counted r h l))
+      (pushed-ok (r .queue) c (h .0) l, joins-counted r h l))
       (λ _. cond-both (is-on f) _ _ P
-        (λ _. (h .0, more-counted (r .counts) (waiting r) (h .1)))
-        (λ _. (pushed-ok (cleared (r .queue)) c (cleared-ok (r .queue) (h .0)) (omega arith),
-          subst (λ cs. Counted (first c (overrun (r .counts))) cs m′) (sym alone) (alone-counted (overrun (r .counts)) (waiting r) (h .1)))))
+      (λ _. (h .0, more-counted (r .counts) (waiting r) (h .1)))
+      (λ _. (
+        pushed-ok (cleared (r .queue)) c (cleared-ok (r .queue) (h .0)) (omega arith),
+        subst (λ cs. Counted (first c (overrun (r .counts))) cs m′) (sym alone) (alone-counted (overrun (r .counts)) (waiting r) (h .1)),
+      )))
 
 next-counted : (n : Counts) (m : ℕ) (x y : Character) (cs : List Character) → Counted n (x ∷ y ∷ cs) m → Counted (first y n) (y ∷ cs) m
 next-counted n m x y cs h =
@@ -133,17 +137,18 @@ taken-sound m r h =
     let q = popped (r .queue) in
     cond-both (eqb (r .queue .len) 0) r _ (λ r. Receiver·sound m r) (λ _. h)
     (λ z. let p : 0 < r .queue .len = omega (arith, eqb-false (r .queue .len) 0 z) in
-      let x = item-at blank (r .queue) 0 in
-      let y = item-at blank q 0 in
-      let all = items-popped blank (r .queue) p in
-      (popped-ok (r .queue) (h .0),
+    let x = item-at blank (r .queue) 0 in
+    let y = item-at blank q 0 in
+    let all = items-popped blank (r .queue) p in (
+      popped-ok (r .queue) (h .0),
       cond-both (ltb 0 (r .queue .len - 1)) (first y (r .counts)) (r .counts) (λ n. Counted n (items blank q) m)
-      (λ e. let rest = items-popped blank q (ltb-true 0 (q .len) e) in
-        subst (λ cs. Counted (first y (r .counts)) cs m) (sym rest)
-        (next-counted (r .counts) m x y (items blank (popped q)) (subst (λ cs. Counted (r .counts) cs m) (all ∙ ap (λ cs. x ∷ cs) rest) (h .1))))
-      (λ e. let l = ltb-false 0 (q .len) e in
-        let none = nil-from-length (items blank q) (length-items blank q ∙ omega arith) in
-        subst (λ cs. Counted (r .counts) cs m) (sym none) (none-counted (r .counts) m (waiting r) (h .1)))))
+          (λ e. let rest = items-popped blank q (ltb-true 0 (q .len) e) in
+          subst (λ cs. Counted (first y (r .counts)) cs m) (sym rest)
+          (next-counted (r .counts) m x y (items blank (popped q)) (subst (λ cs. Counted (r .counts) cs m) (all ∙ ap (λ cs. x ∷ cs) rest) (h .1))))
+          (λ e. let l = ltb-false 0 (q .len) e in
+          let none = nil-from-length (items blank q) (length-items blank q ∙ omega arith) in
+          subst (λ cs. Counted (r .counts) cs m) (sym none) (none-counted (r .counts) m (waiting r) (h .1))),
+    ))
 
 pub emptied-sound : (m : ℕ) (r : Receiver) → Receiver·sound m r → Receiver·sound m (emptied r)
 emptied-sound m r h = (cleared-ok (r .queue) (h .0), none-counted (r .counts) m (waiting r) (h .1))
@@ -158,9 +163,9 @@ pub sent-sound : (l : Bool) (room v : ℕ) (t : Transmitter) → room ≤ 16 →
 sent-sound l room v t most h =
     cond-both (ltb (filling t) room) _ t Transmitter·sound
     (λ e. let k = ltb-true (filling t) room e in
-      cond-both l _ _ Transmitter·sound
-      (λ _. (h .0, pushed-ok (t .turning) v (h .1) (omega arith)))
-      (λ _. (pushed-ok (t .held) v (h .0) (omega arith), h .1)))
+    cond-both l _ _ Transmitter·sound
+    (λ _. (h .0, pushed-ok (t .turning) v (h .1) (omega arith)))
+    (λ _. (pushed-ok (t .held) v (h .0) (omega arith), h .1)))
     (λ _. h)
 
 -- The chip itself

@@ -1,5 +1,5 @@
 -- The pace: on which accesses a byte leaves or comes round.
-use Prim.Native.Nat.{ℕ, _+_}
+use Prim.Native.Nat.{_+_}
 use mathlib.Core.Bool.{Bool, cond}
 use lib.Dec.{leb}
 use Rattle.bench.specs.declared.pace.Pace.{Pace}

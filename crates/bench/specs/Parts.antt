@@ -1,14 +1,12 @@
 -- What the tape, the line and the pace do before an access acts.
-use Prim.Native.Nat.{ℕ, zero, suc, _+_, _-_, _<_, _≤_, min}
+use Prim.Native.Nat.{ℕ, zero, suc, _≤_, min}
 use mathlib.Core.Bool.{Bool, cond, _&&_}
 use lib.Dec.{ltb}
 use Rattle.std.specs.Of.Vec.{vec-len}
-use Rattle.backends.specs.declared.character.Character.{Character}
 use Rattle.bench.specs.declared.core.Core.{Core}
 use Rattle.bench.specs.declared.parts.Parts.{Parts}
 use Rattle.bench.specs.declared.tape.Tape.{Tape}
 use Rattle.bench.specs.declared.line.Line.{Line}
-use Rattle.bench.specs.declared.pace.Pace.{Pace}
 use Rattle.bench.specs.Ring.{item-at}
 use Rattle.bench.specs.Settings.{loops}
 use Rattle.bench.specs.Transmitter.{one-gone}
@@ -50,11 +48,12 @@ filled p = runs (left (p .tape)) p
 
 -- the oldest held byte leaves
 abbrev pub left-line : Parts → Parts
-left-line p = record
-  { core = with-transmitter (p .core) (one-gone (p .core .transmitter))
-  ; tape = p .tape
-  ; line = line-written (p .line) (item-at 0 (p .core .transmitter .held) 0)
-  ; pace = p .pace }
+left-line p = record {
+  core = with-transmitter (p .core) (one-gone (p .core .transmitter));
+  tape = p .tape;
+  line = line-written (p .line) (item-at 0 (p .core .transmitter .held) 0);
+  pace = p .pace;
+}
 
 -- a byte is held, and the line has room for it
 abbrev pub can-leave : Parts → Bool
@@ -66,7 +65,7 @@ leaving p = cond (can-leave p) (left-line p) p
 -- in loop mode the oldest byte comes round on a beat
 abbrev pub passed-looping : Parts → Parts
 passed-looping p = record
-  { core = cond (beats (p .pace)) (turned (p .core)) (p .core); tape = p .tape; line = p .line; pace = passed (p .pace) }
+    { core = cond (beats (p .pace)) (turned (p .core)) (p .core); tape = p .tape; line = p .line; pace = passed (p .pace) }
 
 abbrev pub paced : Parts → Parts
 paced p = record { core = p .core; tape = p .tape; line = p .line; pace = passed (p .pace) }

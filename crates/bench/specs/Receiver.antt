@@ -1,6 +1,6 @@
 -- The receiving side, step by step.
 use Prim.Native.Nat.{ℕ, _+_, _-_, _<_, _^_}
-use mathlib.Core.Bool.{Bool, true, false, cond, _&&_, _||_}
+use mathlib.Core.Bool.{Bool, false, cond, _||_}
 use mathlib.Core.List.{List, [], _∷_}
 use lib.Dec.{ltb, eqb}
 use Rattle.backends.specs.declared.character.Character.{Character}
@@ -24,11 +24,11 @@ waiting r = items blank (r .queue)
 -- dropped, and with them off it replaces the waiting one
 abbrev pub reached : Fifos → Character → Receiver → Receiver
 reached f c r =
-  cond (ltb (r .queue .len) (capacity f))
+    cond (ltb (r .queue .len) (capacity f))
     (record { queue = pushed (r .queue) c; counts = cond (eqb (r .queue .len) 0) (first c (r .counts)) (r .counts); seen = r .seen })
     (cond (is-on f)
-      (record { queue = r .queue; counts = overrun (r .counts); seen = r .seen })
-      (record { queue = pushed (cleared (r .queue)) c; counts = first c (overrun (r .counts)); seen = r .seen }))
+    (record { queue = r .queue; counts = overrun (r .counts); seen = r .seen })
+    (record { queue = pushed (cleared (r .queue)) c; counts = first c (overrun (r .counts)); seen = r .seen }))
 
 -- what a read of the data register gives
 abbrev pub data-byte : Receiver → ℕ
@@ -37,11 +37,12 @@ data-byte r = cond (eqb (r .queue .len) 0) 0 (item-at blank (r .queue) 0 .byte)
 -- it takes the first of the waiting, and the next becomes the first
 abbrev pub taken : Receiver → Receiver
 taken r =
-  cond (eqb (r .queue .len) 0) r
-    (record
-      { queue = popped (r .queue)
-      ; counts = cond (ltb 0 (r .queue .len - 1)) (first (item-at blank (popped (r .queue)) 0) (r .counts)) (r .counts)
-      ; seen = r .seen })
+    cond (eqb (r .queue .len) 0) r
+    (record {
+      queue = popped (r .queue);
+      counts = cond (ltb 0 (r .queue .len - 1)) (first (item-at blank (popped (r .queue)) 0) (r .counts)) (r .counts);
+      seen = r .seen;
+    })
 
 -- the queue is emptied
 abbrev pub emptied : Receiver → Receiver

@@ -51,4 +51,4 @@ with-dlm s v = record { ier = s .ier; lcr = s .lcr; mcr = s .mcr; dll = s .dll; 
 -- a write of it, which is lost where there is none
 abbrev pub scratch-kept : ℕ → Settings → Settings
 scratch-kept v s = record
-  { ier = s .ier; lcr = s .lcr; mcr = s .mcr; dll = s .dll; dlm = s .dlm; scratch = cond (isSome (s .scratch)) (Some v) (s .scratch); fifos = s .fifos }
+    { ier = s .ier; lcr = s .lcr; mcr = s .mcr; dll = s .dll; dlm = s .dlm; scratch = cond (isSome (s .scratch)) (Some v) (s .scratch); fifos = s .fifos }

@@ -1,12 +1,11 @@
 -- What happens before an access keeps the chip sound.
-use Prim.Native.Nat.{ℕ, zero, suc, _+_, _-_, _<_, _≤_, min}
+use Prim.Native.Nat.{ℕ, zero, suc, _+_, _<_, min}
 use native.Mathlib.Omega.{arith}
-use mathlib.Core.Bool.{Bool, true, false, cond, _&&_}
+use mathlib.Core.Bool.{true}
 use mathlib.Core.Path.{_≡_}
 use lib.Dec.{ltb, leb}
 use Rattle.std.proofs.shelf.Tests.{ltb-true, cond-both, and-parts}
 use Rattle.std.specs.Of.Vec.{vec-len}
-use Rattle.bench.specs.declared.core.Core.{Core}
 use Rattle.bench.specs.declared.parts.Parts.{Parts}
 use Rattle.bench.specs.declared.line.Line.{Line}
 use Rattle.bench.specs.Ring.{item-at}
@@ -55,7 +54,7 @@ pub passed-outside-sound : (p : Parts) → Parts·sound p → Parts·sound (pass
 passed-outside-sound p h =
     cond-both (beats (p .pace)) (leaving (paced p)) (paced p) (λ q. Parts·sound (with-tape q (older (p .tape))))
     (λ _. cond-both (can-leave (paced p)) (left-line (paced p)) (paced p) (λ q. Parts·sound (with-tape q (older (p .tape))))
-      (λ e. left-sound (paced p) e h) (λ _. h))
+    (λ e. left-sound (paced p) e h) (λ _. h))
     (λ _. h)
 
 pub ticked-sound : (p : Parts) → Parts·sound p → Parts·sound (ticked p)

@@ -12,10 +12,10 @@ filling t = t .held .len + t .turning .len
 -- a byte is taken where there is room
 abbrev pub sent : Bool → ℕ → ℕ → Transmitter → Transmitter
 sent loops room v t =
-  cond (ltb (filling t) room)
+    cond (ltb (filling t) room)
     (cond loops
-      (record { held = t .held; turning = pushed (t .turning) v })
-      (record { held = pushed (t .held) v; turning = t .turning }))
+    (record { held = t .held; turning = pushed (t .turning) v })
+    (record { held = pushed (t .held) v; turning = t .turning }))
     t
 
 -- all bytes vanish

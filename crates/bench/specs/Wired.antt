@@ -1,11 +1,9 @@
 -- A chip whose line leads back to it: what the line does before an access acts.
-use Prim.Native.Nat.{ℕ, _+_, _<_, _≤_, min}
-use native.Mathlib.Omega.{arith}
-use mathlib.Core.Bool.{Bool, true, false, cond, _&&_}
+use Prim.Native.Nat.{ℕ, _+_}
+use mathlib.Core.Bool.{Bool, true, cond, _&&_}
 use mathlib.Core.Path.{_≡_}
 use lib.Dec.{ltb}
 use Rattle.std.proofs.shelf.Tests.{and-parts, cond-both}
-use Rattle.std.specs.Of.Vec.{vec-len}
 use Rattle.backends.specs.Rules.{unmarked}
 use Rattle.bench.specs.declared.core.Core.{Core}
 use Rattle.bench.specs.declared.wired.Wired.{Wired}
@@ -34,11 +32,12 @@ carrying w = ltb 0 (w .core .transmitter .held .len) && (room (w .line) && accep
 -- the oldest held byte leaves, and arrives
 abbrev pub carried : Wired → Wired
 carried w =
-  let b : ℕ = item-at 0 (w .core .transmitter .held) 0 in
-  record
-    { core = record
-      { receiver = reaching (w .core) (unmarked b); transmitter = one-gone (w .core .transmitter); settings = w .core .settings; modem = w .core .modem }
-    ; line = line-written (w .line) b }
+    let b : ℕ = item-at 0 (w .core .transmitter .held) 0 in
+    record {
+      core = record
+          { receiver = reaching (w .core) (unmarked b); transmitter = one-gone (w .core .transmitter); settings = w .core .settings; modem = w .core .modem };
+      line = line-written (w .line) b;
+    }
 
 -- what happens before an access acts: every access is a beat
 abbrev pub wired-ticked : Wired → Wired

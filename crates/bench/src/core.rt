@@ -1,10 +1,8 @@
 //! The chip itself: its queues and registers, without the line.
 
-ghost use Prim.Native.Nat.{ℕ, _+_, _<_, _≤_, _^_};
+ghost use Prim.Native.Nat.{ℕ};
 ghost use Rattle.bench.specs.Core.{Fits, status as shown-status, interrupts-shown, answer as answering, answered, controlled, switched, reset as emptying, modem-controlled, written, turned, accepting};
 ghost use Rattle.bench.specs.Making.{Made};
-ghost use Rattle.bench.specs.Ring.{Ring·ok};
-ghost use Rattle.bench.specs.Settings.{mode, scratch-byte, scratch-kept};
 ghost use mathlib.Core.Path.{_≡_};
 use crate::flag::flag;
 use crate::modem::Modem;
@@ -196,8 +194,11 @@ impl Core {
                 if self.settings.divisor_reached() {
                     self.settings.dll = value;
                 } else {
-                    self.transmitter
-                        .send(self.settings.looping(), self.settings.fifos.capacity(), value);
+                    self.transmitter.send(
+                        self.settings.looping(),
+                        self.settings.fifos.capacity(),
+                        value,
+                    );
                 }
             }
             1 => {

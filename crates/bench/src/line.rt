@@ -1,6 +1,6 @@
 //! The line: where the bytes go that leave.
 
-ghost use Prim.Native.Nat.{ℕ, _+_, _<_, _≤_, min};
+ghost use Prim.Native.Nat.{ℕ, _≤_};
 ghost use Rattle.bench.specs.Line.{room, written};
 ghost use lib.ListN.{take};
 ghost use Rattle.std.specs.Of.Vec.{vec-items, vec-len};

@@ -74,7 +74,9 @@ impl Modem {
     pub fn latch(&mut self, old: u8, new: u8)
         ensures { λ _. ⌜ now (self .exit) ≡ latched (now (self .entry)) old new ⌝ }
     {
-        self.changes |= modem_line_changes(self.lines(old), self.lines(new));
+        let before = self.lines(old);
+        let after = self.lines(new);
+        self.changes |= modem_line_changes(before, after);
     }
 
     /// The modem status is read, which clears the change bits.

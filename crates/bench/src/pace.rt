@@ -1,6 +1,6 @@
 //! The pace: on which accesses a byte leaves or comes round.
 
-ghost use Prim.Native.Nat.{ℕ, _+_, _<_};
+ghost use Prim.Native.Nat.{ℕ};
 ghost use Rattle.bench.specs.Pace.{beats, passed};
 ghost use mathlib.Core.Path.{_≡_};
 

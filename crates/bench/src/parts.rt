@@ -1,9 +1,8 @@
 //! A chip with a tape and a line, and what they do before an access.
 
-ghost use Prim.Native.Nat.{ℕ, _+_, _<_, _≤_, _^_};
+ghost use Prim.Native.Nat.{ℕ};
 ghost use Rattle.bench.specs.Core.{answer};
 ghost use Rattle.bench.specs.Parts.{Parts·sound, arriving, arrives, leaving, filled, passed-looping, passed-outside, ticked, parts-read, parts-written};
-ghost use Rattle.bench.specs.Ring.{Ring·ok};
 ghost use mathlib.Core.Bool.{true};
 ghost use mathlib.Core.Path.{_≡_};
 use crate::core::Core;

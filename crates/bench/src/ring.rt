@@ -1,6 +1,6 @@
 //! A queue of at most 16.
 
-ghost use Prim.Native.Nat.{ℕ, _+_, _-_, _<_, _≤_};
+ghost use Prim.Native.Nat.{ℕ, _<_};
 ghost use Rattle.bench.specs.Ring.{Ring·ok, item-at, pushed, popped, cleared};
 ghost use mathlib.Core.Path.{_≡_};
 

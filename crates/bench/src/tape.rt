@@ -1,6 +1,6 @@
 //! The tape: what will arrive, and when.
 
-ghost use Prim.Native.Nat.{ℕ, _+_, _<_, _≤_, min};
+ghost use Prim.Native.Nat.{ℕ, _≤_};
 ghost use Rattle.bench.specs.Tape.{over as past, older, advanced, entry as coming};
 ghost use lib.ListN.{take};
 ghost use Rattle.std.specs.Of.Vec.{vec-items, vec-len};

@@ -1,6 +1,6 @@
 //! The sending side: the bytes that have not left, and those that have not come round.
 
-ghost use Prim.Native.Nat.{ℕ, _+_, _<_, _≤_};
+ghost use Prim.Native.Nat.{ℕ, _≤_};
 ghost use Rattle.bench.specs.Ring.{Ring·ok};
 ghost use Rattle.bench.specs.Transmitter.{filling, sent, struck};
 ghost use mathlib.Core.Path.{_≡_};

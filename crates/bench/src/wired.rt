@@ -1,6 +1,6 @@
 //! A chip whose line leads back to it, and what the line does before an access.
 
-ghost use Prim.Native.Nat.{ℕ, _+_, _<_, _≤_, _^_};
+ghost use Prim.Native.Nat.{ℕ};
 ghost use Rattle.bench.specs.Core.{answer};
 ghost use Rattle.bench.specs.Wired.{Wired·sound, carrying, carried, wired-ticked, wired-read, wired-written};
 ghost use mathlib.Core.Bool.{true};
@@ -32,7 +32,9 @@ impl Wired {
         let byte = self.core.transmitter.held.get(0);
         self.core.transmitter.held.pop();
         self.line.put(byte);
-        self.core.receiver.reach(self.core.settings.fifos, unmarked(byte));
+        self.core
+            .receiver
+            .reach(self.core.settings.fifos, unmarked(byte));
     }
 
     /// What happens before an access acts.

@@ -61,7 +61,17 @@ fn fifos_turned_off(rt: LibcRuntime) -> Result<(), Fail> {
     let mut tape = Vec::new(rt.alloc());
     tape.push(plain(0x41, 2))?;
     let mut b = Bench::new(options(65_535), tape, Vec::new(rt.alloc()));
-    run(&mut b, &[w(2, 0x01), w(0, 0x55), r(5, 0x01), w(4, 0x10), w(0, 0x66), r(5, 0x01)])?;
+    run(
+        &mut b,
+        &[
+            w(2, 0x01),
+            w(0, 0x55),
+            r(5, 0x01),
+            w(4, 0x10),
+            w(0, 0x66),
+            r(5, 0x01),
+        ],
+    )?;
     check_eq(b.waiting(), 1)?;
     check_eq(b.held(), 1)?;
     run(&mut b, &[w(2, 0x00), r(5, 0x60), r(0, 0x00), r(2, 0x01)])?;
@@ -75,7 +85,10 @@ fn loop_mode_with_a_held_byte(rt: LibcRuntime) -> Result<(), Fail> {
     let mut store = Vec::new(rt.alloc());
     store.push(0)?;
     let mut b = Bench::new(options(3), Vec::new(rt.alloc()), store);
-    run(&mut b, &[w(0, 0x31), w(4, 0x10), r(5, 0x00), r(4, 0x10), w(4, 0x00)])?;
+    run(
+        &mut b,
+        &[w(0, 0x31), w(4, 0x10), r(5, 0x00), r(4, 0x10), w(4, 0x00)],
+    )?;
     check_eq(b.held(), 1)?;
     run(&mut b, &[r(5, 0x60)])?;
     check_eq(b.left().len(), 1)
@@ -84,7 +97,10 @@ fn loop_mode_with_a_held_byte(rt: LibcRuntime) -> Result<(), Fail> {
 #[test]
 fn a_byte_comes_round(rt: LibcRuntime) -> Result<(), Fail> {
     let mut b = Bench::new(options(1), Vec::new(rt.alloc()), Vec::new(rt.alloc()));
-    run(&mut b, &[w(4, 0x10), w(0, 0x5A), r(5, 0x61), r(0, 0x5A), r(5, 0x60)])?;
+    run(
+        &mut b,
+        &[w(4, 0x10), w(0, 0x5A), r(5, 0x61), r(0, 0x5A), r(5, 0x60)],
+    )?;
     check_eq(b.arrived().len(), 0)
 }
 
@@ -94,7 +110,17 @@ fn loop_mode_stops_the_gaps(rt: LibcRuntime) -> Result<(), Fail> {
     let mut tape = Vec::new(rt.alloc());
     tape.push(plain(0x41, 3))?;
     let mut b = Bench::new(options(1), tape, Vec::new(rt.alloc()));
-    run(&mut b, &[w(4, 0x10), r(5, 0x60), w(4, 0x00), r(5, 0x60), r(5, 0x61), r(0, 0x41)])
+    run(
+        &mut b,
+        &[
+            w(4, 0x10),
+            r(5, 0x60),
+            w(4, 0x00),
+            r(5, 0x60),
+            r(5, 0x61),
+            r(0, 0x41),
+        ],
+    )
 }
 
 fn leaves_on(rt: LibcRuntime, pace: u16, access: u32) -> Result<(), Fail> {
@@ -151,7 +177,18 @@ fn marks(rt: LibcRuntime) -> Result<(), Fail> {
     tape.push(marked(0x41, true, false, 2))?;
     tape.push(marked(0x42, false, true, 0))?;
     let mut b = Bench::new(options(1), tape, Vec::new(rt.alloc()));
-    run(&mut b, &[w(2, 0x01), r(5, 0xE5), r(5, 0xE1), r(0, 0x41), r(5, 0xE9), r(0, 0x42), r(5, 0x60)])
+    run(
+        &mut b,
+        &[
+            w(2, 0x01),
+            r(5, 0xE5),
+            r(5, 0xE1),
+            r(0, 0x41),
+            r(5, 0xE9),
+            r(0, 0x42),
+            r(5, 0x60),
+        ],
+    )
 }
 
 // CTS, DSR and the ring are set; in loop mode the lines are what the modem control puts out
@@ -170,15 +207,39 @@ fn modem_lines(rt: LibcRuntime) -> Result<(), Fail> {
         lines,
     };
     let mut b = Bench::new(with, Vec::new(rt.alloc()), Vec::new(rt.alloc()));
-    run(&mut b, &[r(6, 0x70), w(4, 0x10), r(6, 0x07), r(6, 0x00), w(4, 0x1F), r(6, 0xFB), r(6, 0xF0)])?;
+    run(
+        &mut b,
+        &[
+            r(6, 0x70),
+            w(4, 0x10),
+            r(6, 0x07),
+            r(6, 0x00),
+            w(4, 0x1F),
+            r(6, 0xFB),
+            r(6, 0xF0),
+        ],
+    )?;
     run(&mut b, &[w(4, 0x00), r(6, 0x78), r(6, 0x70)])
 }
 
 #[test]
 fn registers_keep(rt: LibcRuntime) -> Result<(), Fail> {
     let mut b = Bench::new(options(1), Vec::new(rt.alloc()), Vec::new(rt.alloc()));
-    run(&mut b, &[w(7, 0x12), r(7, 0x12), w(1, 0x05), r(1, 0x05), r(8, 0xFF)])?;
-    run(&mut b, &[w(3, 0x80), w(0, 0x0C), w(1, 0x01), r(0, 0x0C), r(1, 0x01), r(3, 0x80)])?;
+    run(
+        &mut b,
+        &[w(7, 0x12), r(7, 0x12), w(1, 0x05), r(1, 0x05), r(8, 0xFF)],
+    )?;
+    run(
+        &mut b,
+        &[
+            w(3, 0x80),
+            w(0, 0x0C),
+            w(1, 0x01),
+            r(0, 0x0C),
+            r(1, 0x01),
+            r(3, 0x80),
+        ],
+    )?;
     run(&mut b, &[w(3, 0x03), r(0, 0x00), r(1, 0x05), r(5, 0x60)])
 }
 
@@ -201,7 +262,19 @@ fn a_plug(rt: LibcRuntime) -> Result<(), Fail> {
     store.push(0)?;
     store.push(0)?;
     let mut p = Plug::new(quiet(), store);
-    run(&mut p, &[w(2, 0x01), w(0, 0x31), w(0, 0x32), w(0, 0x33), r(5, 0x01), r(0, 0x31), r(0, 0x32), r(5, 0x00)])?;
+    run(
+        &mut p,
+        &[
+            w(2, 0x01),
+            w(0, 0x31),
+            w(0, 0x32),
+            w(0, 0x33),
+            r(5, 0x01),
+            r(0, 0x31),
+            r(0, 0x32),
+            r(5, 0x00),
+        ],
+    )?;
     check_eq(p.carried().len(), 2)?;
     check_eq(p.held(), 1)?;
     check_eq(p.waiting(), 0)

@@ -4,7 +4,6 @@ use mathlib.Core.Path.{_≡_, ap, _∙_}
 use lib.Bits.{bitOr}
 use Rattle.registers.specs.Modem.{Line·changes}
 use Rattle.bench.specs.Modem.{line-changes, lines}
-use Rattle.bench.specs.declared.modem.Modem.{Modem}
 use Rattle.bench.proofs.modem.Modem.latch.Needs as need
 
 four-bits : (r : ℕ) → r < 16 → r ≡ r % 2 + 2 * (r / 2 % 2) + 4 * (r / 4 % 2) + 8 * (r / 8 % 2)
@@ -26,4 +25,4 @@ returns c =
     let m = c .args .self .now in
     ap (λ n. record { fixed = m .fixed; changes = bitOr (m .changes) n })
     (changes-are _ _ _ (c .modem-line-changes .ensures)
-    ∙ ap (λ n. line-changes n (c .lines-2 .result)) (c .lines .ensures) ∙ ap (λ n. line-changes (lines m (c .args .old)) n) (c .lines-2 .ensures))
+    ∙ ap (λ n. line-changes n (c .lines-after .result)) (c .lines-before .ensures) ∙ ap (λ n. line-changes (lines m (c .args .old)) n) (c .lines-after .ensures))

@@ -1,4 +1,4 @@
-use mathlib.Core.Path.{_≡_, sym, subst}
+use mathlib.Core.Path.{sym, subst}
 use Rattle.bench.specs.Parts.{Parts·sound}
 use Rattle.bench.specs.Ticks.{passed-outside-sound}
 use Rattle.bench.proofs.parts.Parts.tick.Needs as need

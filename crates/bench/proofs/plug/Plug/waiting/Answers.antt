@@ -1,4 +1,4 @@
-use mathlib.Core.Path.{_≡_, sym, _∙_}
+use mathlib.Core.Path.{sym, _∙_}
 use Rattle.bench.specs.Items.{length-items}
 use Rattle.bench.specs.Receiver.{blank}
 use Rattle.bench.proofs.plug.Plug.waiting.Needs as need

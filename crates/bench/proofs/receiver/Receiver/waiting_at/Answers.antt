@@ -1,5 +1,5 @@
 use native.Mathlib.Omega.{arith}
-use mathlib.Core.Path.{_≡_, sym, _∙_}
+use mathlib.Core.Path.{sym, _∙_}
 use Rattle.bench.specs.Items.{length-items}
 use Rattle.bench.specs.Receiver.{blank}
 use Rattle.bench.proofs.Items.{items-at}

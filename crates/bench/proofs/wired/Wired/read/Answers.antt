@@ -1,4 +1,4 @@
-use mathlib.Core.Path.{_≡_, sym, subst, ap, _∙_}
+use mathlib.Core.Path.{sym, subst, ap, _∙_}
 use Rattle.bench.specs.Core.{Fits, answer, answered}
 use Rattle.bench.specs.Wired.{wired-with}
 use Rattle.bench.specs.declared.wired.Wired.{Wired}
@@ -13,4 +13,5 @@ returns c =
     let t = c .tick .ensures in
     record {
       value = c .read .ensures .value ∙ ap (λ (p : Wired). answer (p .core) (c .args .offset)) t;
-      state = ap (λ s. wired-with (c .tick .last .self) s) (c .read .ensures .state) ∙ ap (λ (p : Wired). wired-with p (answered (p .core) (c .args .offset))) t }
+      state = ap (λ s. wired-with (c .tick .last .self) s) (c .read .ensures .state) ∙ ap (λ (p : Wired). wired-with p (answered (p .core) (c .args .offset))) t;
+    }

@@ -1,4 +1,4 @@
-use mathlib.Core.Path.{_≡_, sym, subst, ap, _∙_}
+use mathlib.Core.Path.{sym, subst, ap, _∙_}
 use Rattle.bench.specs.Core.{Fits, written}
 use Rattle.bench.specs.Wired.{wired-with}
 use Rattle.bench.specs.declared.wired.Wired.{Wired}

@@ -1,5 +1,5 @@
 use native.Mathlib.Omega.{arith}
-use mathlib.Core.Path.{_≡_, sym, subst}
+use mathlib.Core.Path.{sym, subst}
 use Rattle.std.proofs.shelf.Tests.{lt-ltb}
 use Rattle.bench.specs.Bench.{parts-read-sound}
 use Rattle.bench.specs.Parts.{Parts·sound}
