@@ -26,7 +26,7 @@ use Rattle.bench.specs.Settings.{mode, loops, reaches-divisor, scratch-kept, w
 use Rattle.bench.specs.Core.{Fits, accepting, turned, data-answered, answered, controlled, switched, reset, modem-controlled, data-written, interrupts-kept, written, with-receiver, with-transmitter, with-settings, with-modem}
 use Rattle.bench.specs.Modem.{unchanged}
 use Rattle.bench.specs.Table.{entry-of}
-use Rattle.bench.specs.Sound.{one, marks, Within, Counted, Receiver·sound, Transmitter·sound, Sound}
+use Rattle.bench.specs.Sound.{one, marks, Within, Counted, Receiver·sound, Transmitter·sound, Bounded, Sound}
 
 -- what is true of each entry is true of the one that is taken
 each-entry : {A : Type 0} (P : A → Type 0) (k : ℕ) (a b c d e f g h : A) → P a → P b → P c → P d → P e → P f → P g → P h → P (entry-of k a b c d e f g h)
@@ -39,6 +39,12 @@ pub capacity-most : (f : Mode) → capacity f ≤ 16
 capacity-most absent = omega arith
 capacity-most off = omega arith
 capacity-most on = omega arith
+
+-- there is always room for one
+capacity-least : (f : Mode) → 1 ≤ capacity f
+capacity-least absent = omega arith
+capacity-least off = omega arith
+capacity-least on = omega arith
 
 one-more-is : (b : Bool) (n : ℕ) → one-more b n ≡ n + one b
 one-more-is true n = omega arith
@@ -150,6 +156,18 @@ taken-sound m r h =
           subst (λ cs. Counted (r .counts) cs m) (sym none) (none-counted (r .counts) m (waiting r) (h .1))),
     ))
 
+-- a newcomer joins where there is room, is dropped, or stands alone
+pub reached-bounded : (c : Character) (f : Mode) (r : Receiver) → r .queue .len ≤ capacity f → reached f c r .queue .len ≤ capacity f
+reached-bounded c f r h =
+    let P : Receiver → Type 0 = λ q. q .queue .len ≤ capacity f in
+    cond-both (ltb (r .queue .len) (capacity f)) _ _ P
+    (λ e. omega (arith, ltb-true (r .queue .len) (capacity f) e))
+    (λ _. cond-both (is-on f) _ _ P (λ _. h) (λ _. omega (arith, capacity-least f)))
+
+-- a read leaves no more than there were
+taken-bounded : (n : ℕ) (r : Receiver) → r .queue .len ≤ n → taken r .queue .len ≤ n
+taken-bounded n r h = cond-both (eqb (r .queue .len) 0) r _ (λ q. q .queue .len ≤ n) (λ _. h) (λ _. omega arith)
+
 pub emptied-sound : (m : ℕ) (r : Receiver) → Receiver·sound m r → Receiver·sound m (emptied r)
 emptied-sound m r h = (cleared-ok (r .queue) (h .0), none-counted (r .counts) m (waiting r) (h .1))
 
@@ -170,8 +188,8 @@ sent-sound l room v t most h =
 
 -- The chip itself
 
-pub both-sound : (m : ℕ) (s : Core) → Receiver·sound m (s .receiver) → Transmitter·sound (s .transmitter) → Sound m s
-both-sound m s r t = (r .0, r .1, t .0, t .1)
+pub both-sound : (m : ℕ) (s : Core) → Receiver·sound m (s .receiver) → Transmitter·sound (s .transmitter) → Bounded s → Sound m s
+both-sound m s r t b = (r .0, r .1, t .0, t .1, b)
 
 -- a sound chip can take what comes
 pub sound-fits : (m : ℕ) (s : Core) → m ≤ 65535 → Sound m s → Fits s
@@ -181,23 +199,26 @@ pub turned-sound : (m : ℕ) (s : Core) → Sound m s → Sound m (turned s)
 turned-sound m s h =
     let b = item-at 0 (s .transmitter .turning) 0 in
     cond-both (ltb 0 (s .transmitter .turning .len) && accepting s) _ s (λ t. Sound m t)
-    (λ _. let r = reached-sound (unmarked b) m m (grows-none b m) (mode (s .settings .fifos)) (s .receiver) (h .0, h .1) in (r .0, r .1, h .2, popped-ok (s .transmitter .turning) (h .3)))
+    (λ _. let r = reached-sound (unmarked b) m m (grows-none b m) (mode (s .settings .fifos)) (s .receiver) (h .0, h .1) in
+      (r .0, r .1, h .2, popped-ok (s .transmitter .turning) (h .3), reached-bounded (unmarked b) (mode (s .settings .fifos)) (s .receiver) (h .4)))
     (λ _. h)
 
 pub answered-sound : (m : ℕ) (s : Core) (k : ℕ) → Sound m s → Sound m (answered s k)
 answered-sound m s k h =
     each-entry (λ t. Sound m t) k (data-answered s) s s s s (with-receiver s (noticed (s .receiver))) (with-modem s (unchanged (s .modem))) s
-    (cond-both (reaches-divisor (s .settings)) s (with-receiver s (taken (s .receiver))) (λ t. Sound m t) (λ _. h) (λ _. let r = taken-sound m (s .receiver) (h .0, h .1) in (r .0, r .1, h .2, h .3)))
+    (cond-both (reaches-divisor (s .settings)) s (with-receiver s (taken (s .receiver))) (λ t. Sound m t) (λ _. h) (λ _. let r = taken-sound m (s .receiver) (h .0, h .1) in
+      (r .0, r .1, h .2, h .3, taken-bounded (capacity (mode (s .settings .fifos))) (s .receiver) (h .4))))
     h h h h h h h
 
 switched-sound : (m : ℕ) (f : Fifos) (s : Core) → Sound m s → Sound m (switched f s)
-switched-sound m f s h = both-sound m (switched f s) (emptied-sound m (s .receiver) (h .0, h .1)) (struck-sound (s .transmitter) (h .2, h .3))
+switched-sound m f s h = both-sound m (switched f s) (emptied-sound m (s .receiver) (h .0, h .1)) (struck-sound (s .transmitter) (h .2, h .3)) (omega arith)
 
 reset-sound : (m v : ℕ) (s : Core) → Sound m s → Sound m (reset v s)
 reset-sound m v s h =
     both-sound m (reset v s)
     (cond-both (contains v rx-fifo-reset) (emptied (s .receiver)) (s .receiver) (λ r. Receiver·sound m r) (λ _. emptied-sound m (s .receiver) (h .0, h .1)) (λ _. (h .0, h .1)))
     (cond-both (contains v tx-fifo-reset) (struck (s .transmitter)) (s .transmitter) Transmitter·sound (λ _. struck-sound (s .transmitter) (h .2, h .3)) (λ _. (h .2, h .3)))
+    (cond-both (contains v rx-fifo-reset) (emptied (s .receiver)) (s .receiver) (λ r. r .queue .len ≤ capacity (mode (s .settings .fifos))) (λ _. omega arith) (λ _. h .4))
 
 controlled-sound : (m : ℕ) (f : Fifos) (v : ℕ) (s : Core) → Sound m s → Sound m (controlled f v s)
 controlled-sound m Absent v s h = h
@@ -210,15 +231,20 @@ modem-controlled-sound m v s h =
     both-sound m (modem-controlled v s) (h .0, h .1)
     (cond-both (loops (s .settings) && not (contains v loop-back)) (unlooped (s .transmitter)) (s .transmitter) Transmitter·sound
     (λ _. unlooped-sound (s .transmitter) (h .2, h .3)) (λ _. (h .2, h .3)))
+    (h .4)
 
 data-written-sound : (m : ℕ) (s : Core) (v : ℕ) → Sound m s → Sound m (data-written s v)
 data-written-sound m s v h =
     let f = mode (s .settings .fifos) in
     cond-both (reaches-divisor (s .settings)) (with-settings s (with-dll (s .settings) v)) (with-transmitter s (sent (loops (s .settings)) (capacity f) v (s .transmitter)))
-    (λ t. Sound m t) (λ _. h) (λ _. let t = sent-sound (loops (s .settings)) (capacity f) v (s .transmitter) (capacity-most f) (h .2, h .3) in (h .0, h .1, t .0, t .1))
+    (λ t. Sound m t) (λ _. h) (λ _. let t = sent-sound (loops (s .settings)) (capacity f) v (s .transmitter) (capacity-most f) (h .2, h .3) in (h .0, h .1, t .0, t .1, h .4))
+
+-- offset 1 is written: the FIFOs stay as they are
+interrupts-kept-sound : (m v : ℕ) (s : Core) → Sound m s → Sound m (with-settings s (interrupts-kept v (s .settings)))
+interrupts-kept-sound m v s h = cond-both (reaches-divisor (s .settings)) _ _ (λ g. Sound m (with-settings s g)) (λ _. h) (λ _. h)
 
 pub written-sound : (m : ℕ) (s : Core) (k v : ℕ) → Sound m s → Sound m (written s k v)
 written-sound m s k v h =
     each-entry (λ t. Sound m t) k (data-written s v) (with-settings s (interrupts-kept v (s .settings))) (controlled (s .settings .fifos) v s)
     (with-settings s (with-lcr (s .settings) v)) (modem-controlled v s) s s (with-settings s (scratch-kept v (s .settings)))
-    (data-written-sound m s v h) h (controlled-sound m (s .settings .fifos) v s h) h (modem-controlled-sound m v s h) h h h
+    (data-written-sound m s v h) (interrupts-kept-sound m v s h) (controlled-sound m (s .settings .fifos) v s h) h (modem-controlled-sound m v s h) h h h

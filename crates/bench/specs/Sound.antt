@@ -1,14 +1,17 @@
--- What stays true of a chip: its queues keep their bounds, and no more marks are counted than characters came with one.
+-- What stays true of a chip: its queues keep their bounds, no more marks are counted than characters came with one, and no
+-- more characters wait than there is room for.
 use Prim.Native.Nat.{ℕ, _+_, _≤_}
 use mathlib.Core.Bool.{Bool, cond}
 use mathlib.Core.List.{List, [], _∷_}
 use Rattle.backends.specs.declared.character.Character.{Character}
 use Rattle.backends.specs.declared.character.Counts.{Counts}
+use Rattle.backends.specs.Chip.{capacity}
 use Rattle.bench.specs.declared.receiver.Receiver.{Receiver}
 use Rattle.bench.specs.declared.transmitter.Transmitter.{Transmitter}
 use Rattle.bench.specs.declared.core.Core.{Core}
 use Rattle.bench.specs.Ring.{Ring·ok}
 use Rattle.bench.specs.Receiver.{waiting}
+use Rattle.bench.specs.Settings.{mode}
 
 abbrev pub one : Bool → ℕ
 one b = cond b 1 0
@@ -36,6 +39,10 @@ Receiver·sound m r = Ring·ok (r .queue) × Counted (r .counts) (waiting r) m
 abbrev pub Transmitter·sound : Transmitter → Type 0
 Transmitter·sound t = Ring·ok (t .held) × Ring·ok (t .turning)
 
+-- no more characters wait than there is room for: without FIFOs at most one
+abbrev pub Bounded : Core → Type 0
+Bounded s = s .receiver .queue .len ≤ capacity (mode (s .settings .fifos))
+
 -- m characters came from the line
 abbrev pub Sound : ℕ → Core → Type 0
-Sound m s = Ring·ok (s .receiver .queue) × Counted (s .receiver .counts) (waiting (s .receiver)) m × Ring·ok (s .transmitter .held) × Ring·ok (s .transmitter .turning)
+Sound m s = Ring·ok (s .receiver .queue) × Counted (s .receiver .counts) (waiting (s .receiver)) m × Ring·ok (s .transmitter .held) × Ring·ok (s .transmitter .turning) × Bounded s

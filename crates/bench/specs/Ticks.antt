@@ -17,7 +17,7 @@ use Rattle.bench.specs.Line.{room, written}
 use Rattle.bench.specs.Pace.{beats}
 use Rattle.bench.specs.Parts.{Parts·sound, Line·sound, arriving, arrives, runs, filled, left-line, can-leave, leaving, paced, passed-looping, passed-outside, ticked, with-tape}
 use Rattle.bench.specs.Sound.{Sound}
-use Rattle.bench.specs.Kept.{grows-one, reached-sound, turned-sound}
+use Rattle.bench.specs.Kept.{grows-one, reached-sound, reached-bounded, turned-sound}
 
 -- there is an entry left
 pub arriving-more : (p : Parts) → arriving p ≡ true → p .tape .next < min (vec-len (p .tape .entries)) 65535
@@ -29,7 +29,7 @@ arrives-sound p e h =
     let c = entry (p .tape) .character in
     let n = p .tape .next in
     let r = reached-sound c n (n + 1) (grows-one c n) (mode (p .core .settings .fifos)) (p .core .receiver) (h .0 .0, h .0 .1) in
-    ((r .0, r .1, h .0 .2, h .0 .3), omega (arith, arriving-more p e), h .2)
+    ((r .0, r .1, h .0 .2, h .0 .3, reached-bounded c (mode (p .core .settings .fifos)) (p .core .receiver) (h .0 .4)), omega (arith, arriving-more p e), h .2)
 
 pub runs-sound : (n : ℕ) (p : Parts) → Parts·sound p → Parts·sound (runs n p)
 unfolding runs
@@ -44,7 +44,7 @@ written-line-sound l b e = omega (arith, ltb-true (l .left) (min (vec-len (l .st
 pub left-sound : (p : Parts) → can-leave p ≡ true → Parts·sound p → Parts·sound (left-line p)
 left-sound p e h =
     let held = p .core .transmitter .held in
-    ((h .0 .0, h .0 .1, popped-ok held (h .0 .2), h .0 .3), h .1, written-line-sound (p .line) (item-at 0 held 0) (and-parts (ltb 0 (held .len)) (room (p .line)) e .1))
+    ((h .0 .0, h .0 .1, popped-ok held (h .0 .2), h .0 .3, h .0 .4), h .1, written-line-sound (p .line) (item-at 0 held 0) (and-parts (ltb 0 (held .len)) (room (p .line)) e .1))
 
 pub passed-looping-sound : (p : Parts) → Parts·sound p → Parts·sound (passed-looping p)
 passed-looping-sound p h =

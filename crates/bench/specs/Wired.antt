@@ -12,7 +12,7 @@ use Rattle.bench.specs.Items.{popped-ok}
 use Rattle.bench.specs.Settings.{mode, loops}
 use Rattle.bench.specs.Transmitter.{one-gone}
 use Rattle.bench.specs.Core.{accepting, reaching, turned, answered, written}
-use Rattle.bench.specs.Kept.{grows-one, reached-sound, turned-sound, answered-sound, written-sound}
+use Rattle.bench.specs.Kept.{grows-one, reached-sound, reached-bounded, turned-sound, answered-sound, written-sound}
 use Rattle.bench.specs.Line.{room, written as line-written}
 use Rattle.bench.specs.Parts.{Line·sound}
 use Rattle.bench.specs.Sound.{Sound}
@@ -60,7 +60,8 @@ carried-sound w e h =
     let n = w .line .left in
     let r = reached-sound (unmarked b) n (n + 1) (grows-one (unmarked b) n) (mode (w .core .settings .fifos)) (w .core .receiver) (h .0 .0, h .0 .1) in
     let q = and-parts (room (w .line)) (accepting (w .core)) (and-parts (ltb 0 (held .len)) (room (w .line) && accepting (w .core)) e .1) in
-    ((r .0, r .1, popped-ok held (h .0 .2), h .0 .3), written-line-sound (w .line) b (q .0))
+    ((r .0, r .1, popped-ok held (h .0 .2), h .0 .3, reached-bounded (unmarked b) (mode (w .core .settings .fifos)) (w .core .receiver) (h .0 .4)),
+    written-line-sound (w .line) b (q .0))
 
 pub wired-ticked-sound : (w : Wired) → Wired·sound w → Wired·sound (wired-ticked w)
 wired-ticked-sound w h =
