@@ -70,7 +70,7 @@ impl<B> Uart16550<B> {
         &self.config
     }
 
-    /// Whether the FIFOs are used: what the last initialisation found, and true before any.
+    /// Whether the FIFOs are used: what the last set-up of them found, and true before any.
     pub fn fifo_enabled(&self) -> bool
         ensures { λ r. ⌜ r ≡ now (self .entry) .«fifo_enabled» ⌝ }
     {

@@ -141,7 +141,7 @@ module _ {S : Type 0} (d : Device S) (meaning : S → Chip·state) (law : Keeps�
       ; ledger = still (noting k (w .status ∷ []) []) (w .keeps) (subst (λ u. At d meaning law start base out gone σ u (noting k (w .status ∷ []) [])) (w .ran .1)
           (steps.read-lsr d meaning law start base out gone σ s k l (w .status) (w .ran .0) .ledger))
       ; shows = refl }
-    kept-by c a (try-send b r w) = record { next = base; ledger = one-sent b r w; shows = refl }
+    kept-by c a (try-send b r w x) = record { next = base; ledger = one-sent b r w; shows = refl }
     kept-by c a (send v i w) = record
       { next = base; ledger = rw (sent-front k i (vec-items v) (w .tried) (w .sound) (w .answer)) (attempted (vec-items v) (w .tried) (w .sound) (w .made)); shows = refl }
     kept-by c a (send-exact v i r w) = record

@@ -2,14 +2,13 @@
 use Prim.Native.Nat.{ℕ, _+_, _*_, _/_, _%_, _≤_, _<_}
 use native.Mathlib.Omega.{arith}
 use mathlib.Core.Bool.{Bool, true, false, cond}
-use mathlib.Core.List.{List, [], _∷_, _++_, append-nil}
+use mathlib.Core.List.{List, [], _∷_, _++_, append-nil, append-assoc}
 use mathlib.Core.Path.{_≡_, refl, sym, ap, _∙_, subst}
 use lib.Bits.{bitAnd}
 use lib.Dec.{eqb, lit<}
 use lib.ListN.{length}
 use Rattle.std.specs.declared.option.Option.{Option}
 use Rattle.std.specs.declared.option.Option.the-variants.{Some, None}
-use Rattle.std.proofs.shelf.Bits.{div-add-mod'}
 use Rattle.registers.specs.declared.config.Config.{Config}
 use Rattle.registers.specs.declared.fcr.FifoTriggerLevel.{FifoTriggerLevel}
 use Rattle.registers.specs.declared.fcr.FifoTriggerLevel.the-variants.{One, Four, Eight, Fourteen}
@@ -199,15 +198,16 @@ module _ {S : Type 0} (d : Device S) (meaning : S → Chip·state) (law : Keeps�
       ; saved = rw (z, fresh u) (shows-none (m .receiver .counts))
       ; older = rw (fresh u) (grown-same (m .receiver .counts)); newer = rw (fresh u) (grown-same (m .receiver .counts)) }
 
-  pub record Begun (c : Config) (s t : S) (l : Kept) : Type 0 where
-    pub start : Start d s t
+  pub record Begun (c : Config) (all : List Access) (s t : S) (l : Kept) : Type 0 where
+    pub start : Start d all s t
     pub set-up : Set·up c (meaning t) l
     pub σ : Setup
     pub closed : contains (σ .lcr) divisor-access ≡ false
     pub ledger : At d meaning law (meaning (start .at)) (meaning (start .at) .receiver .counts) [] [] σ t l
 
-  from : (c : Config) (n : ℕ) (k : Kept) (f : ℕ) (l : Kept) (all : List Access) (s t : S) → Initialised c n k None f l all → Runs d all s t → Begun c s t l
-  from c n k f l all s t (done dv h b xs ys zs px oy vs v busy empty within (cleared a i e)) w =
+  -- the start, and everything that the list finds
+  pub begun : (c : Config) (n : ℕ) (k : Kept) (f : ℕ) (l : Kept) (all : List Access) (s t : S) → Initialised c n k None f l all → Runs d all s t → Begun c all s t l
+  begun c n k f l all s t (done dv h b xs ys zs px oy vs v busy empty within (cleared a i e)) w =
       let ps = polls vs ++ (rd 5 v ∷ []) in
       let x = runs-split (xs ++ ys ++ ps ++ (rd 5 a ∷ rd 2 i ∷ rd 6 e ∷ [])) (wr 1 (c .interrupts) ∷ []) s t w in
       let y = runs-split (xs ++ ys ++ ps) (rd 5 a ∷ rd 2 i ∷ rd 6 e ∷ []) s (x .0) (x .1) in
@@ -230,14 +230,11 @@ module _ {S : Type 0} (d : Device S) (meaning : S → Chip·state) (law : Keeps�
       record
       { start = record
         { before = xs ++ ys ++ ps; status = a; at = d .reader .next u 5; rest = rd 2 i ∷ rd 6 e ∷ wr 1 (c .interrupts) ∷ []
+        ; parts = append-assoc (xs ++ ys ++ ps) (rd 5 a ∷ rd 2 i ∷ rd 6 e ∷ []) (wr 1 (c .interrupts) ∷ [])
         ; reached = runs-append d (xs ++ ys ++ ps) (rd 5 a ∷ []) s u (d .reader .next u 5) (y .1) (y .2 .0, refl)
         ; left = tail
         ; last = ((λ z. let y : _≡_ {A = ℕ} 2 5 = ap (λ x. x .offset) z in omega arith), ((λ z. let y : _≡_ {A = ℕ} 6 5 = ap (λ x. x .offset) z in omega arith), ((λ z. let y : _≡_ {A = ℕ} 1 5 = ap (λ x. x .offset) z in omega arith), tt))) }
       ; set-up = record
-        { divisor = dv; right = h; latched = rw (end .setup) (div-add-mod' dv 256); framed = ap (λ x. x .lcr) (end .setup)
+        { divisor = dv; right = h; low = ap (λ x. x .dll) (end .setup); high = ap (λ x. x .dlm) (end .setup); framed = ap (λ x. x .lcr) (end .setup)
         ; raised = ap (λ x. x .mcr) (end .setup); fifos = o .2 ∙ sym (ap (λ x. is-on (x .fifos)) (end .setup)) }
       ; σ = σ₁; closed = open-σ; ledger = end }
-
-  -- the start, and everything that the list finds
-  pub begun : (c : Config) (n : ℕ) (k l : Kept) (f : ℕ) (s t : S) → Ran d (Initialised c n k None f l) s t → Begun c s t l
-  begun c n k l f s t r = from c n k f l (r .0) s t (r .1) (r .2)

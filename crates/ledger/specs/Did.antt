@@ -14,7 +14,8 @@ use Rattle.registers.specs.declared.error.ByteSendError.{ByteSendError}
 use Rattle.registers.specs.declared.error.RemoteReadyToReceiveError.{RemoteReadyToReceiveError}
 use Rattle.registers.specs.declared.error.Wait.the-variants as wait
 use Rattle.registers.specs.Offsets.{at-ier, at-isr, at-lcr, at-mcr, at-spr}
-use Rattle.registers.specs.Refusal.{receive-refusal, send-refusal, remote-refusal, budget-refusal}
+use Rattle.std.specs.declared.option.Option.the-variants.{Some, None}
+use Rattle.registers.specs.Refusal.{refusal, receive-refusal, send-refusal, remote-refusal, budget-refusal}
 use Rattle.backends.specs.Device.{Device}
 use Rattle.driver.specs.declared.budget.Transferred.{Transferred}
 use Rattle.driver.specs.Kept.{Kept, verdict}
@@ -36,7 +37,8 @@ pub data Did {S : Type 0} (d : Device S) (s t : S) (k l : Kept) : Call → Answe
     → Did d s t k l (call.ReceiveExact v n) (answer.Exact r)
   ready-to-receive : (r : Result (Unit {0}) ByteReceiveError) → Asked·ready d s t k l (verdict receive-refusal r)
     → Did d s t k l call.ReadyToReceive (answer.ReadyToReceive r)
-  try-send : (b : ℕ) (r : Result (Unit {0}) ByteSendError) → Sent d s t k l (b ∷ []) (cond (isOk r) 1 0) → Did d s t k l (call.TrySend b) (answer.Sent r)
+  try-send : (b : ℕ) (r : Result (Unit {0}) ByteSendError) → Sent d s t k l (b ∷ []) (cond (isOk r) 1 0)
+    → verdict send-refusal r ≡ cond (isOk r) None (Some (refusal 11 [])) → Did d s t k l (call.TrySend b) (answer.Sent r)
   send : (v : Vec ℕ) (n : ℕ) → Sent d s t k l (vec-items v) n → Did d s t k l (call.Send v) (answer.Count n)
   send-exact : (v : Vec ℕ) (n : ℕ) (r : Transferred)
     → Sent·exactly d s t k l (vec-items v) n wait.Send (verdict budget-refusal (r .result)) (r .fruitless) (r .moved)

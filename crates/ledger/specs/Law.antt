@@ -1,5 +1,5 @@
 -- The law: no character is lost in silence. It relates the start, the present and what the calls reported.
-use Prim.Native.Nat.{ℕ, _+_, _*_}
+use Prim.Native.Nat.{ℕ, _+_, _/_, _%_}
 use mathlib.Core.Bool.{Bool, true, false}
 use mathlib.Core.List.{List, [], _∷_, _++_}
 use mathlib.Core.Path.{_≡_}
@@ -98,12 +98,13 @@ abbrev pub No·status : List Access → Type 0
 No·status [] = Unit {0}
 No·status (a ∷ xs) = (a ≡ rd at-lsr (a .value) → ⊥) × No·status xs
 
--- the start: right after the last read of the line status among the accesses that led from s to t
-pub record Start {S : Type 0} (d : Device S) (s t : S) : Type 0 where
+-- the start: right after the last read of the line status among the accesses xs, which led from s to t
+pub record Start {S : Type 0} (d : Device S) (xs : List Access) (s t : S) : Type 0 where
   pub before : List Access
   pub status : ℕ
   pub at : S
   pub rest : List Access
+  pub parts : xs ≡ before ++ (rd at-lsr status ∷ rest)
   pub reached : Runs d (before ++ (rd at-lsr status ∷ [])) s at
   pub left : Runs d rest at t
   pub last : No·status rest
@@ -112,7 +113,8 @@ pub record Start {S : Type 0} (d : Device S) (s t : S) : Type 0 where
 pub record Set·up (c : Config) (m : Chip·state) (k : Kept) : Type 0 where
   pub divisor : ℕ
   pub right : Divisor·for c divisor
-  pub latched : m .setup .dlm * 256 + m .setup .dll ≡ divisor
+  pub low : m .setup .dll ≡ divisor % 256
+  pub high : m .setup .dlm ≡ divisor / 256
   pub framed : m .setup .lcr ≡ frame (c .«data_bits») (c .«extra_stop_bits») (c .parity)
   pub raised : m .setup .mcr ≡ 0x0B
   pub fifos : k .fifo ≡ is-on (m .setup .fifos)
@@ -122,8 +124,10 @@ pub record Law {S : Type 0} (d : Device S) (meaning : S → Chip·state) (c : Co
   -- init led from s to a state in which the driver kept n
   pub ready : S
   pub n : Kept
-  pub init : Ran d (Initialised c budget k None fruitless n) s ready
-  pub start : Start d s ready
+  pub accesses : List Access
+  pub init : Initialised c budget k None fruitless n accesses
+  pub ran : Runs d accesses s ready
+  pub start : Start d accesses s ready
   pub set-up : Set·up c (meaning ready) n
   -- the calls led from there to t
   pub states : List Chip·state

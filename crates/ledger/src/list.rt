@@ -3,7 +3,7 @@
 ghost use Rattle.driver.specs.Kept.{kept};
 ghost use Rattle.ledger.specs.Did.{Did};
 ghost use Rattle.backends.specs.Chip.{Chip·state};
-ghost use Rattle.ledger.specs.Law.{Law, Played, Outcome};
+ghost use Rattle.ledger.specs.Law.{Played, Outcome};
 ghost use Rattle.driver.specs.Kept.{verdict};
 ghost use Rattle.registers.specs.Refusal.{init-refusal};
 ghost use mathlib.Core.List.{List};

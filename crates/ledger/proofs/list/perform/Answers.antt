@@ -23,7 +23,7 @@ pub returns-in-ReadyToReceive : need.returns-in-ReadyToReceive
 returns-in-ReadyToReceive g c = rw (c .in-ReadyToReceive .is) (did.ready-to-receive _ (c .ready-to-receive .ensures))
 
 pub returns-in-TrySend : need.returns-in-TrySend
-returns-in-TrySend g c = did.try-send _ _ (c .try-send-byte .ensures .sent)
+returns-in-TrySend g c = did.try-send _ _ (c .try-send-byte .ensures .sent) (c .try-send-byte .ensures .answer)
 
 pub returns-in-Send : need.returns-in-Send
 returns-in-Send g c = did.send _ _ (rw (c .deref .ensures .value) at (c .send-bytes .ensures))
