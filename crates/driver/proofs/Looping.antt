@@ -155,7 +155,7 @@ filled-whole bytes buffer e = ap (λ r. bytes ++ r) (drop-all (length bytes) buf
 
 -- as many bytes come back as were sent
 pub echoed-length : (k : Kept) (n : ℕ) (bytes : List ℕ) (ps : List Part) → Echoed k n bytes None ps → length (back ps) ≡ length bytes
-echoed-length k n bytes ps (all-sent x tried ts p q r) = ap length (append-nil (got ts)) ∙ fills-length _ _ _ ts r
+echoed-length k n bytes ps (all-sent x tried ts p q o r) = ap length (append-nil (got ts)) ∙ fills-length _ _ _ ts r
 
 pub not-none : {X : Type 0} (x : Refusal) → Some x ≡ None → X
 not-none x e = let z : _≡_ {A = ℕ} 0 1 = cc in absurd (omega arith)
@@ -179,7 +179,7 @@ module _ {S : Type 0} (d : Device S) (s t : S) (k l : Kept) (bytes : List ℕ) (
       let z : n′ - b ≡ n - a - refusals (q .tried) = omega (arith, q .counted) in
       done d s u k m (sent (q .tried) ∷ heard (r .ts) ∷ []) _ a c
       (moved-append d s t u k l m (sent (q .tried) ∷ []) (heard (r .ts) ∷ []) (one-sent d s t k l (q .tried) (q .made)) (one-heard d t u l m (r .ts) (r .made)))
-      (all-sent x (q .tried) (r .ts) (attempts-settings k bytes (q .tried) (q .sound)) (sends-settings k bytes _ _ _ (q .tried) (q .sends))
+      (all-sent x (q .tried) (r .ts) (attempts-settings k bytes (q .tried) (q .sound)) (sends-settings k bytes _ _ _ (q .tried) (q .sends)) (r .made .sound)
         (subst (λ y. Fills·exactly y (n - a - refusals (q .tried)) TestMessageReceived x (r .ts)) f (subst (λ y. Fills·exactly (length before) y TestMessageReceived x (r .ts)) z (r .fills))),
        whole x (length before) (n′ - b) _ (r .ts) before after (r .fills) refl (r .buffer))
       (omega (arith, q .counted, r .counted))
@@ -244,7 +244,7 @@ module _ {S : Type 0} (d : Device S) (s t : S) (k l : Kept) (n a : ℕ) where
         h (omega arith)
 
     pub byte-late : (x : Refusal) → Waits·for n TestByte (Some x) ts [] → Done d s u k m (Byte·tested (settings k) n (Some x)) a b
-    byte-late x w = with-byte _ (never-back (one .0) (one-settings k _ (one .0) offer) took-it x ts w)
+    byte-late x w = with-byte _ (never-back (one .0) (one-settings k _ (one .0) offer) took-it x ts (r .sound) w)
 
     bits : m .config .«data_bits» ≡ k .config .«data_bits»
     bits =
@@ -253,11 +253,11 @@ module _ {S : Type 0} (d : Device S) (s t : S) (k l : Kept) (n a : ℕ) where
 
     module _ (z mask : ℕ) (f : mask ≡ data-mask (m .config .«data_bits»)) (w : Waits·for n TestByte None ts (z ∷ [])) where
       pub byte-other : (bitAnd z mask ≡ bitAnd test-byte mask → ⊥) → Done d s u k m (Byte·tested (settings k) n (Some (refusal 16 (amount z ∷ [])))) a b
-      byte-other h = with-byte _ (another (one .0) (one-settings k _ (one .0) offer) took-it ts z w
+      byte-other h = with-byte _ (another (one .0) (one-settings k _ (one .0) offer) took-it ts z (r .sound) w
           (subst (λ y. bitAnd z y ≡ bitAnd test-byte y → ⊥) (f ∙ ap data-mask bits) h))
 
       pub byte-same : bitAnd z mask ≡ bitAnd test-byte mask → Done d s u k m (Byte·tested (settings k) n None) a b
-      byte-same h = with-byte _ (the-same (one .0) (one-settings k _ (one .0) offer) took-it ts z w
+      byte-same h = with-byte _ (the-same (one .0) (one-settings k _ (one .0) offer) took-it ts z (r .sound) w
           (subst (λ y. bitAnd z y ≡ bitAnd test-byte y) (f ∙ ap data-mask bits) h))
 
 -- Bytes of which only some bits count

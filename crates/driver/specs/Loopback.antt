@@ -19,7 +19,7 @@ use Rattle.backends.specs.declared.access.Access.{Access}
 use Rattle.backends.specs.Device.{Device, Runs, rd, wr}
 use Rattle.driver.specs.Kept.{Kept, with-fifo, with-saved}
 use Rattle.driver.specs.Traces.{joined, noting, polls, None·shows, Fifo·set-up}
-use Rattle.driver.specs.Receives.{Try, missed, tries, statuses, got, misses, Fills·exactly, Waits·for}
+use Rattle.driver.specs.Receives.{Sound, Try, missed, tries, statuses, got, misses, Fills·exactly, Waits·for}
 use Rattle.driver.specs.Sends.{Attempt, attempts, line-statuses, modem-statuses, refusals, Attempted, Attempts, Sends·exactly}
 
 -- the byte and the message that have to come back
@@ -93,22 +93,22 @@ settings k = with-saved k 0 0
 
 -- characters are thrown away until none waits; the one after n ends the call
 pub data Drains (n : ℕ) : Option Refusal → List Part → Type 0 where
-  emptied : (ts : List Try) (v : ℕ) → misses ts ≡ 0 → length (got ts) ≤ n → Drains n None (drained (ts ++ (missed v ∷ [])) ∷ [])
-  flooded : (ts : List Try) → misses ts ≡ 0 → length (got ts) ≡ n + 1 → Drains n (Some (refusal 9 (during Drain ∷ []))) (drained ts ∷ [])
+  emptied : (ts : List Try) (v : ℕ) → Sound (ts ++ (missed v ∷ [])) → misses ts ≡ 0 → length (got ts) ≤ n → Drains n None (drained (ts ++ (missed v ∷ [])) ∷ [])
+  flooded : (ts : List Try) → Sound ts → misses ts ≡ 0 → length (got ts) ≡ n + 1 → Drains n (Some (refusal 9 (during Drain ∷ []))) (drained ts ∷ [])
 
 -- the test byte is offered once, and the character that then comes is compared
 pub data Byte·tested (k : Kept) (n : ℕ) : Option Refusal → List Part → Type 0 where
   not-taken : (a : Attempt) → Attempted k (test-byte ∷ []) a → a .bytes ≡ []
     → Byte·tested k n (Some (refusal 15 (amount 11 ∷ []))) (offered a ∷ [])
   never-back : (a : Attempt) → Attempted k (test-byte ∷ []) a → a .bytes ≡ test-byte ∷ []
-    → (x : Refusal) (ts : List Try) → Waits·for n TestByte (Some x) ts []
+    → (x : Refusal) (ts : List Try) → Sound ts → Waits·for n TestByte (Some x) ts []
     → Byte·tested k n (Some x) (offered a ∷ heard ts ∷ [])
   another : (a : Attempt) → Attempted k (test-byte ∷ []) a → a .bytes ≡ test-byte ∷ []
-    → (ts : List Try) (b : ℕ) → Waits·for n TestByte None ts (b ∷ [])
+    → (ts : List Try) (b : ℕ) → Sound ts → Waits·for n TestByte None ts (b ∷ [])
     → (bitAnd b (data-mask (k .config .«data_bits»)) ≡ bitAnd test-byte (data-mask (k .config .«data_bits»)) → ⊥)
     → Byte·tested k n (Some (refusal 16 (amount b ∷ []))) (offered a ∷ heard ts ∷ [])
   the-same : (a : Attempt) → Attempted k (test-byte ∷ []) a → a .bytes ≡ test-byte ∷ []
-    → (ts : List Try) (b : ℕ) → Waits·for n TestByte None ts (b ∷ [])
+    → (ts : List Try) (b : ℕ) → Sound ts → Waits·for n TestByte None ts (b ∷ [])
     → bitAnd b (data-mask (k .config .«data_bits»)) ≡ bitAnd test-byte (data-mask (k .config .«data_bits»))
     → Byte·tested k n None (offered a ∷ heard ts ∷ [])
 
@@ -117,7 +117,7 @@ pub data Echoed (k : Kept) (n : ℕ) (bytes : List ℕ) : Option Refusal → Lis
   not-sent : (x : Refusal) (tried : List Attempt) → Attempts k bytes tried → Sends·exactly k bytes n TestMessageSent (Some x) tried
     → Echoed k n bytes (Some x) (sent tried ∷ [])
   all-sent : (x : Option Refusal) (tried : List Attempt) (ts : List Try) → Attempts k bytes tried → Sends·exactly k bytes n TestMessageSent None tried
-    → Fills·exactly (length bytes) (n - refusals tried) TestMessageReceived x ts → Echoed k n bytes x (sent tried ∷ heard ts ∷ [])
+    → Sound ts → Fills·exactly (length bytes) (n - refusals tried) TestMessageReceived x ts → Echoed k n bytes x (sent tried ∷ heard ts ∷ [])
 
 -- the first i bytes of the message, one after the other, each sent and read back before the next; the last may have been cut
 pub data Singly (k : Kept) (n : ℕ) : ℕ → Option Refusal → List Part → Type 0 where

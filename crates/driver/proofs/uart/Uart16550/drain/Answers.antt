@@ -32,7 +32,7 @@ returns-in-Break-spend g c =
     ; room = tt
     ; drained = done (g .B·Backend .device) _ _ _ _ (drained us ∷ []) _ _ _
         (one-drained (g .B·Backend .device) _ _ _ _ us (made-append (g .B·Backend .device) _ _ _ _ _ _ (i .0) _ (i .1) (q .made)))
-        (flooded us (m .0) (omega (arith, m .1, b .1))) (omega (arith, m .1)) })
+        (flooded us (made-append (g .B·Backend .device) _ _ _ _ _ _ (i .0) _ (i .1) (q .made) .sound) (m .0) (omega (arith, m .1, b .1))) (omega (arith, m .1)) })
 
 pub returns : need.returns
 returns g c =
@@ -44,4 +44,4 @@ returns g c =
     ; room = omega arith
     ; drained = done (g .B·Backend .device) _ _ _ _ (drained us ∷ []) _ _ _
         (one-drained (g .B·Backend .device) _ _ _ _ us (made-append (g .B·Backend .device) _ _ _ _ _ _ (i .0) _ (i .1) (q .made)))
-        (emptied (i .0) (q .status) (i .2) (omega arith)) (omega (arith, got-miss (i .0) (q .status))) }
+        (emptied (i .0) (q .status) (made-append (g .B·Backend .device) _ _ _ _ _ _ (i .0) _ (i .1) (q .made) .sound) (i .2) (omega arith)) (omega (arith, got-miss (i .0) (q .status))) }
