@@ -130,50 +130,50 @@ module _ {S : Type 0} (d : Device S) (meaning : S → Chip·state) (law : Keeps�
           (steps.same-line d meaning law start base out gone σ t (noting k (line ∷ []) []) (noting k (line ∷ []) (modem ∷ [])) refl refl
             (subst (λ u. At d meaning law start base out gone σ u (noting k (line ∷ []) [])) (x .2 .1 .1 .1 .1 .1 .1 .1) (w .ledger)))
 
-    pub kept-by : (c : Call) (a : Answer) → Did d s t k n c a → Kept·by c a base out gone t n
-    kept-by c a (try-receive r w) = record { next = base; ledger = one-received r (w .status) (w .made); shows = refl }
-    kept-by c a (receive v before i w) = record
-      { next = base; ledger = rw (filled-front i (got (w .ts)) before (vec-items v) (w .buffer) (w .answer)) (tried (w .ts) (w .made)); shows = refl }
-    kept-by c a (receive-exact v before i r w) = record
-      { next = base; ledger = rw (filled-front (r .moved) (got (w .ts)) before (vec-items v) (w .buffer) (w .answer)) (tried (w .ts) (w .made)); shows = refl }
-    kept-by c a (ready-to-receive r w) = record
+    pub kept-by : (b c : Call) (a : Answer) → Did d s t k n b c a → Kept·by c a base out gone t n
+    kept-by b c a (try-receive r w) = record { next = base; ledger = one-received r (w .status) (w .made); shows = refl }
+    kept-by b c a (receive u v i w) = record
+      { next = base; ledger = rw (filled-front i (got (w .ts)) (vec-items u) (vec-items v) (w .buffer) (w .answer)) (tried (w .ts) (w .made)); shows = refl }
+    kept-by b c a (receive-exact u v i r w) = record
+      { next = base; ledger = rw (filled-front (r .moved) (got (w .ts)) (vec-items u) (vec-items v) (w .buffer) (w .answer)) (tried (w .ts) (w .made)); shows = refl }
+    kept-by b c a (ready-to-receive r w) = record
       { next = base
       ; ledger = still (noting k (w .status ∷ []) []) (w .keeps) (subst (λ u. At d meaning law start base out gone σ u (noting k (w .status ∷ []) [])) (w .ran .1)
           (steps.read-lsr d meaning law start base out gone σ s k l (w .status) (w .ran .0) .ledger))
       ; shows = refl }
-    kept-by c a (try-send b r w x) = record { next = base; ledger = one-sent b r w; shows = refl }
-    kept-by c a (send v i w) = record
+    kept-by b c a (try-send z r w x) = record { next = base; ledger = one-sent z r w; shows = refl }
+    kept-by b c a (send v i w) = record
       { next = base; ledger = rw (sent-front k i (vec-items v) (w .tried) (w .sound) (w .answer)) (attempted (vec-items v) (w .tried) (w .sound) (w .made)); shows = refl }
-    kept-by c a (send-exact v i r w) = record
+    kept-by b c a (send-exact v i r w) = record
       { next = base; ledger = rw (sent-front k (r .moved) (vec-items v) (w .tried) (w .sound) (w .answer)) (attempted (vec-items v) (w .tried) (w .sound) (w .made)); shows = refl }
-    kept-by c a (ready-to-send r w) = record
+    kept-by b c a (ready-to-send r w) = record
       { next = base; ledger = still _ (w .keeps) (pieces.asked-kept d meaning law start base σ open-σ (w .question) out gone s t k (w .ran) l .ledger); shows = refl }
-    kept-by c a (check-connected r w) = record
+    kept-by b c a (check-connected r w) = record
       { next = base
       ; ledger = still (noting k [] (w .status ∷ [])) (w .keeps) (steps.same-line d meaning law start base out gone σ t k (noting k [] (w .status ∷ [])) refl refl
           (subst (λ u. At d meaning law start base out gone σ u k) (w .ran .1) (steps.read-msr d meaning law start base out gone σ s k l .ledger)))
       ; shows = refl }
-    kept-by c a (check-present r w e) = record
+    kept-by b c a (check-present r w e) = record
       { next = base; ledger = still k e (pieces.probe-kept d meaning law start base σ open-σ r (w .0) out gone s t k (w .1) (w .2) l); shows = refl }
-    kept-by c a (enable b w) = record { next = base; ledger = switched (w .enabled) _ _ (w .keeps) refl refl (w .ran); shows = refl }
-    kept-by c a (disable b w) = record { next = base; ledger = switched (w .enabled) _ _ (w .keeps) refl refl (w .ran); shows = refl }
-    kept-by c a (ier v w) = record
+    kept-by b c a (enable z w) = record { next = base; ledger = switched (w .enabled) _ _ (w .keeps) refl refl (w .ran); shows = refl }
+    kept-by b c a (disable z w) = record { next = base; ledger = switched (w .enabled) _ _ (w .keeps) refl refl (w .ran); shows = refl }
+    kept-by b c a (ier v w) = record
       { next = base; ledger = still k (w .keeps) (subst (λ u. At d meaning law start base out gone σ u k) (w .ran .1) (steps.read-ier d meaning law start base out gone σ s k l open-σ .ledger)); shows = refl }
-    kept-by c a (isr v w) = record
+    kept-by b c a (isr v w) = record
       { next = base; ledger = still k (w .keeps) (subst (λ u. At d meaning law start base out gone σ u k) (w .ran .1) (steps.read-isr d meaning law start base out gone σ s k l .ledger)); shows = refl }
-    kept-by c a (lcr v w) = record
+    kept-by b c a (lcr v w) = record
       { next = base; ledger = still k (w .keeps) (subst (λ u. At d meaning law start base out gone σ u k) (w .ran .1) (steps.read-lcr d meaning law start base out gone σ s k l .ledger)); shows = refl }
-    kept-by c a (mcr v w) = record
+    kept-by b c a (mcr v w) = record
       { next = base; ledger = still k (w .keeps) (subst (λ u. At d meaning law start base out gone σ u k) (w .ran .1) (steps.read-mcr d meaning law start base out gone σ s k l .ledger)); shows = refl }
-    kept-by c a (lsr v w) = looked (w .status) v (w .ran .0) (w .ran .1) (w .answer) (w .keeps)
-    kept-by c a (msr v w) = record
+    kept-by b c a (lsr v w) = looked (w .status) v (w .ran .0) (w .ran .1) (w .answer) (w .keeps)
+    kept-by b c a (msr v w) = record
       { next = base
       ; ledger = still (with-saved k (k .lsr) 0) (w .keeps) (steps.same-line d meaning law start base out gone σ t k (with-saved k (k .lsr) 0) refl refl
           (subst (λ u. At d meaning law start base out gone σ u k) (w .ran .1) (steps.read-msr d meaning law start base out gone σ s k l .ledger)))
       ; shows = refl }
-    kept-by c a (spr v w) = record
+    kept-by b c a (spr v w) = record
       { next = base; ledger = still k (w .keeps) (subst (λ u. At d meaning law start base out gone σ u k) (w .ran .1) (steps.read-spr d meaning law start base out gone σ s k l .ledger)); shows = refl }
-    kept-by c a (dll-dlm x y w) = record
+    kept-by b c a (dll-dlm x y w) = record
       { next = base; ledger = still k (w .keeps) (pieces.look-kept d meaning law start base σ open-σ (w .lcr) x y out gone s t k (w .ran) l); shows = refl }
-    kept-by c a (dump v w) = record
+    kept-by b c a (dump v w) = record
       { next = base; ledger = dumped (w .found) (v .dll) (v .dlm) (v .ier) (v .isr) (v .lcr) (v .mcr) (w .line) (w .modem) (v .spr) (w .keeps) (w .ran); shows = refl }

@@ -9,3 +9,4 @@ pub mod Lists
 pub mod Setting
 pub mod Starting
 pub mod Whole
+pub mod Same

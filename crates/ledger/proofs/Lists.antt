@@ -10,6 +10,7 @@ use Rattle.backends.specs.Device.{Device}
 use Rattle.backends.specs.Rules.{Keeps·rules}
 use Rattle.driver.specs.Kept.{Kept}
 use Rattle.ledger.specs.declared.call.Answer.{Answer}
+use Rattle.ledger.specs.declared.call.Call.{Call}
 use Rattle.ledger.specs.declared.call.Entry.{Entry}
 use Rattle.ledger.specs.Did.{Did}
 use Rattle.ledger.specs.Law.{Played, Errors·shown, Answer·shows, is-lsr}
@@ -18,13 +19,13 @@ use Rattle.ledger.proofs.Steps.{At}
 use Rattle.ledger.proofs.Calls.{Kept·by, kept-by, Shows·now}
 
 -- one call more
-pub played-push : {S : Type 0} (d : Device S) (meaning : S → Chip·state) (s t u : S) (k l n : Kept) (es : List Entry) (ms : List Chip·state) (e : Entry)
-  → Played d meaning s k es ms t l → Did d t u l n (e .call) (e .answer) → Played d meaning s k (es ++ (e ∷ [])) (ms ++ (meaning u ∷ [])) u n
-played-push d meaning s t u k l n [] [] e p q =
-    (u, n, subst (λ x. Did d x u k n (e .call) (e .answer)) (sym (p .0)) (subst (λ x. Did d t u x n (e .call) (e .answer)) (sym (p .1)) q), refl, (refl, refl))
-played-push d meaning s t u k l n [] (m ∷ ms) e p q = absurd p
-played-push d meaning s t u k l n (x ∷ es) [] e p q = absurd p
-played-push d meaning s t u k l n (x ∷ es) (m ∷ ms) e p q = (p .0, p .1, p .2, p .3, played-push d meaning (p .0) t u (p .1) l n es ms e (p .4) q)
+pub played-push : {S : Type 0} (d : Device S) (meaning : S → Chip·state) (s t u : S) (k l n : Kept) (es : List Entry) (ms : List Chip·state) (c : Call) (e : Entry)
+  → Played d meaning s k es ms t l → Did d t u l n c (e .call) (e .answer) → Played d meaning s k (es ++ (e ∷ [])) (ms ++ (meaning u ∷ [])) u n
+played-push d meaning s t u k l n [] [] c e p q =
+    (u, n, (c, subst (λ x. Did d x u k n c (e .call) (e .answer)) (sym (p .0)) (subst (λ x. Did d t u x n c (e .call) (e .answer)) (sym (p .1)) q)), refl, (refl, refl))
+played-push d meaning s t u k l n [] (m ∷ ms) c e p q = absurd p
+played-push d meaning s t u k l n (x ∷ es) [] c e p q = absurd p
+played-push d meaning s t u k l n (x ∷ es) (m ∷ ms) c e p q = (p .0, p .1, p .2, p .3, played-push d meaning (p .0) t u (p .1) l n es ms c e (p .4) q)
 
 -- what the getter of the line status has shown, and what is to be shown after it
 shown-more : (b : Bool) (a : Answer) (base now next : Counts) (P : Counts → Type 0) → Shows·now b a base now next → P next
@@ -49,7 +50,7 @@ module _ {S : Type 0} (d : Device S) (meaning : S → Chip·state) (law : Keeps�
   kept-all [] (m ∷ ms) base out gone s t k l p a = absurd p
   kept-all (e ∷ es) [] base out gone s t k l p a = absurd p
   kept-all (e ∷ es) (m ∷ ms) base out gone s t k l p a =
-      let q = kept-by d meaning law start σ open-σ base out gone s (p .0) k (p .1) a (e .call) (e .answer) (p .2) in
+      let q = kept-by d meaning law start σ open-σ base out gone s (p .0) k (p .1) a (p .2 .0) (e .call) (e .answer) (p .2 .1) in
       let r = kept-all es ms (q .next) (out ++ handed·by (e .call) (e .answer)) (gone ++ taken·by (e .call) (e .answer)) (p .0) t (p .1) l (p .4) (q .ledger) in
       record
       { next = r .next

@@ -1,10 +1,10 @@
 -- The law: no character is lost in silence. It relates the start, the present and what the calls reported.
-use Prim.Native.Nat.{ℕ, _+_, _/_, _%_}
+use Prim.Native.Nat.{ℕ, _+_, _/_, _%_, _<_}
 use mathlib.Core.Bool.{Bool, true, false}
 use mathlib.Core.List.{List, [], _∷_, _++_}
 use mathlib.Core.Path.{_≡_}
 use lib.Dec.{ltb}
-use lib.ListN.{length}
+use lib.ListN.{length, getD}
 use Rattle.std.specs.declared.option.Option.{Option}
 use Rattle.std.specs.declared.option.Option.the-variants.{Some, None}
 use Rattle.registers.specs.declared.config.Config.{Config}
@@ -21,11 +21,12 @@ use Rattle.backends.specs.Chip.{Chip·state, Receiver, is-on}
 use Rattle.backends.specs.Device.{Device, Runs, rd}
 use Rattle.driver.specs.Kept.{Kept}
 use Rattle.driver.specs.Traces.{Ran, Initialised, Divisor·for}
+use Rattle.ledger.specs.declared.call.Call.{Call}
 use Rattle.ledger.specs.declared.call.Call.the-variants as call
 use Rattle.ledger.specs.declared.call.Answer.{Answer}
 use Rattle.ledger.specs.declared.call.Answer.the-variants as answer
 use Rattle.ledger.specs.declared.call.Entry.{Entry}
-use Rattle.ledger.specs.Did.{Did}
+use Rattle.ledger.specs.Did.{Did, Same·call}
 use Rattle.ledger.specs.Reported.{handed, taken}
 
 -- the first list is the second with none or some left out
@@ -61,7 +62,7 @@ Played d meaning s k [] [] t l = (s ≡ t) × (k ≡ l)
 Played d meaning s k [] (m ∷ ms) t l = ⊥
 Played d meaning s k (e ∷ es) [] t l = ⊥
 Played {S} d meaning s k (e ∷ es) (m ∷ ms) t l =
-  (u : S) × (n : Kept) × Did d s u k n (e .call) (e .answer) × (meaning u ≡ m) × Played d meaning u n es ms t l
+  (u : S) × (n : Kept) × ((c : Call) × Did d s u k n c (e .call) (e .answer)) × (meaning u ≡ m) × Played d meaning u n es ms t l
 
 -- what an answer of the line status getter has to show
 abbrev pub Answer·shows : Answer → Counts → Counts → Type 0
@@ -139,10 +140,15 @@ pub record Law {S : Type 0} (d : Device S) (meaning : S → Chip·state) (c : Co
   -- and lsr() told of every error
   pub errors : Errors·shown (meaning (start .at) .receiver .counts) list states
 
+-- the same calls, in the same order
+pub record Same·calls (before after : List Entry) : Type 0 where
+  pub many : length after ≡ length before
+  pub each : (i : ℕ) (e : Entry) → i < length before → Same·call (getD before i e .call) (getD after i e .call)
+
 -- an init and, where it was accepted, a list of calls: what it left of the list, and its answer
 pub data Outcome {S : Type 0} (d : Device S) (meaning : S → Chip·state) (c : Config) (budget : ℕ) (s t : S) (k l : Kept) (before after : List Entry) :
     Option Refusal → ℕ → Type 0 where
   -- init was refused: the calls were not made
   refused : (x : Refusal) (n : ℕ) → Ran d (Initialised c budget k (Some x) n l) s t → after ≡ before → Outcome d meaning c budget s t k l before after (Some x) n
   -- it was accepted: the law holds
-  played : (n : ℕ) → Law d meaning c budget n s t k l after → Outcome d meaning c budget s t k l before after None n
+  played : (n : ℕ) → Same·calls before after → Law d meaning c budget n s t k l after → Outcome d meaning c budget s t k l before after None n

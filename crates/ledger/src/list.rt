@@ -3,7 +3,7 @@
 ghost use Rattle.driver.specs.Kept.{kept};
 ghost use Rattle.ledger.specs.Did.{Did};
 ghost use Rattle.backends.specs.Chip.{Chip·state};
-ghost use Rattle.ledger.specs.Law.{Played, Outcome};
+ghost use Rattle.ledger.specs.Law.{Played, Same·calls, Outcome};
 ghost use Rattle.driver.specs.Kept.{verdict};
 ghost use Rattle.registers.specs.Refusal.{init-refusal};
 ghost use mathlib.Core.List.{List};
@@ -19,7 +19,7 @@ use registers::error::InitError;
 
 /// Makes one call; its buffer is filled in place.
 pub fn perform<B: Backend>(uart: &mut Uart16550<B>, call: &mut Call) -> Answer
-    ensures { λ r. ⌜ Did device (now (uart .entry) .backend) (now (uart .exit) .backend) (kept (now (uart .entry))) (kept (now (uart .exit))) (now (call .exit)) r ⌝ }
+    ensures { λ r. ⌜ Did device (now (uart .entry) .backend) (now (uart .exit) .backend) (kept (now (uart .entry))) (kept (now (uart .exit))) (now (call .entry)) (now (call .exit)) r ⌝ }
 {
     match call {
         Call::TryReceive => Answer::Byte(uart.try_receive_byte()),
@@ -71,7 +71,8 @@ pub fn play<C: Chip>(uart: &mut Uart16550<C>, config: Config, budget: u16, calls
 
 /// Makes the calls one after the other.
 fn play_all<C: Chip>(uart: &mut Uart16550<C>, calls: &mut [Entry])
-    ensures { λ _. ⌜ ((ms : List Chip·state) × Played (C·Backend .device) (C·Chip .meaning) (now (uart .entry) .backend) (kept (now (uart .entry))) (now (calls .exit)) ms (now (uart .exit) .backend) (kept (now (uart .exit)))) ⌝ }
+    ensures same { λ _. ⌜ Same·calls (now (calls .entry)) (now (calls .exit)) ⌝ }
+    ensures played { λ _. ⌜ ((ms : List Chip·state) × Played (C·Backend .device) (C·Chip .meaning) (now (uart .entry) .backend) (kept (now (uart .entry))) (now (calls .exit)) ms (now (uart .exit) .backend) (kept (now (uart .exit)))) ⌝ }
 {
     for entry in calls.iter_mut() {
         entry.answer = perform(uart, &mut entry.call);

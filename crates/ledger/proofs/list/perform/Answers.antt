@@ -11,25 +11,26 @@ returns-in-TryReceive g c = rw (c .in-TryReceive .is) (did.try-receive (c .try-r
 pub returns-in-Receive : need.returns-in-Receive
 returns-in-Receive g c =
     let e = refilled-is (c .in-Receive .buffer) (c .receive-bytes .last .buffer) (c .receive-bytes .kept .buffer ∙ c .deref-mut .ensures .len) in
-    did.receive (refilled (c .in-Receive .buffer) (c .receive-bytes .last .buffer)) (c .deref-mut .result .now) (c .receive-bytes .result) (rw e (c .receive-bytes .ensures))
+    rw (c .in-Receive .is) (did.receive (c .in-Receive .buffer) (refilled (c .in-Receive .buffer) (c .receive-bytes .last .buffer)) (c .receive-bytes .result)
+      (rw e (rw (c .deref-mut .ensures .value) at (c .receive-bytes .ensures))))
 
 pub returns-in-ReceiveExact : need.returns-in-ReceiveExact
 returns-in-ReceiveExact g c =
     let e = refilled-is (c .in-ReceiveExact .buffer) (c .receive-bytes-exact .last .buffer) (c .receive-bytes-exact .kept .buffer ∙ c .deref-mut-in-ReceiveExact .ensures .len) in
-    did.receive-exact (refilled (c .in-ReceiveExact .buffer) (c .receive-bytes-exact .last .buffer)) (c .deref-mut-in-ReceiveExact .result .now) (c .in-ReceiveExact .budget) (c .receive-bytes-exact .result)
-        (rw e (c .receive-bytes-exact .ensures))
+    rw (c .in-ReceiveExact .is) (did.receive-exact (c .in-ReceiveExact .buffer) (refilled (c .in-ReceiveExact .buffer) (c .receive-bytes-exact .last .buffer)) (c .in-ReceiveExact .budget) (c .receive-bytes-exact .result)
+      (rw e (rw (c .deref-mut-in-ReceiveExact .ensures .value) at (c .receive-bytes-exact .ensures))))
 
 pub returns-in-ReadyToReceive : need.returns-in-ReadyToReceive
 returns-in-ReadyToReceive g c = rw (c .in-ReadyToReceive .is) (did.ready-to-receive _ (c .ready-to-receive .ensures))
 
 pub returns-in-TrySend : need.returns-in-TrySend
-returns-in-TrySend g c = did.try-send _ _ (c .try-send-byte .ensures .sent) (c .try-send-byte .ensures .answer)
+returns-in-TrySend g c = rw (c .in-TrySend .is) (did.try-send _ _ (c .try-send-byte .ensures .sent) (c .try-send-byte .ensures .answer))
 
 pub returns-in-Send : need.returns-in-Send
-returns-in-Send g c = did.send _ _ (rw (c .deref .ensures .value) at (c .send-bytes .ensures))
+returns-in-Send g c = rw (c .in-Send .is) (did.send _ _ (rw (c .deref .ensures .value) at (c .send-bytes .ensures)))
 
 pub returns-in-SendExact : need.returns-in-SendExact
-returns-in-SendExact g c = did.send-exact _ _ _ (rw (c .deref-in-SendExact .ensures .value) at (c .send-bytes-exact .ensures))
+returns-in-SendExact g c = rw (c .in-SendExact .is) (did.send-exact _ _ _ (rw (c .deref-in-SendExact .ensures .value) at (c .send-bytes-exact .ensures)))
 
 pub returns-in-ReadyToSend : need.returns-in-ReadyToSend
 returns-in-ReadyToSend g c = rw (c .in-ReadyToSend .is) (did.ready-to-send _ (c .ready-to-send .ensures))
@@ -41,10 +42,10 @@ pub returns-in-CheckPresent : need.returns-in-CheckPresent
 returns-in-CheckPresent g c = rw (c .in-CheckPresent .is) (did.check-present _ (c .check-present .ensures .accesses) (c .check-present .ensures .keeps))
 
 pub returns-in-EnableInterrupts : need.returns-in-EnableInterrupts
-returns-in-EnableInterrupts g c = did.enable _ (c .enable-interrupts .ensures)
+returns-in-EnableInterrupts g c = rw (c .in-EnableInterrupts .is) (did.enable _ (c .enable-interrupts .ensures))
 
 pub returns-in-DisableInterrupts : need.returns-in-DisableInterrupts
-returns-in-DisableInterrupts g c = did.disable _ (c .disable-interrupts .ensures)
+returns-in-DisableInterrupts g c = rw (c .in-DisableInterrupts .is) (did.disable _ (c .disable-interrupts .ensures))
 
 pub returns-in-Ier : need.returns-in-Ier
 returns-in-Ier g c = rw (c .in-Ier .is) (did.ier _ (c .ier .ensures))
