@@ -4,14 +4,14 @@
 mod report;
 mod run;
 
+use bench::BenchBackend;
+use bench::BenchChip;
+use driver::Uart16550;
+use ledger::play;
+use registers::config::Config;
 use report::report;
 use run::calls;
 use run::chip;
-use driver::Uart16550;
-use bench::BenchBackend;
-use bench::BenchChip;
-use ledger::play;
-use registers::config::Config;
 use std::error::AnyError;
 
 fn main(rt: LibcRuntime) -> Result<(), AnyError> {

@@ -59,7 +59,10 @@ fn account(heap: Global, handed: usize, chip: &Bench) -> Result<String, AllocErr
     let waiting = chip.waiting();
     let lost = chip.counts().lost;
     let arrived = chip.arrived().len();
-    let mut text = format!(heap, "handed out {handed}, waiting {waiting}, lost {lost}\narrived {arrived}\n")?;
+    let mut text = format!(
+        heap,
+        "handed out {handed}, waiting {waiting}, lost {lost}\narrived {arrived}\n"
+    )?;
     let left = chip.left().len();
     let held = chip.held();
     text.push_str(format!(heap, "on the line {left}, held {held}:")?.as_str())?;

@@ -14,7 +14,12 @@ use std::alloc::Global;
 /// A character without a stop bit error or a break, `gap` accesses after the one before it.
 fn entry(byte: u8, parity: bool, gap: u8) -> TapeEntry {
     TapeEntry {
-        character: Character { byte, parity, framing: false, broken: false },
+        character: Character {
+            byte,
+            parity,
+            framing: false,
+            broken: false,
+        },
         gap,
     }
 }
@@ -28,7 +33,12 @@ pub fn chip(heap: Global) -> Result<Bench, AllocError> {
         ring_indicator: false,
         carrier_detect: true,
     };
-    let options = BenchOptions { fifos: true, scratch: true, pace: 1, lines };
+    let options = BenchOptions {
+        fifos: true,
+        scratch: true,
+        pace: 1,
+        lines,
+    };
     let mut tape = Vec::new(heap);
     tape.push(entry(1, false, 23))?;
     for byte in 2..=20 {
@@ -40,7 +50,10 @@ pub fn chip(heap: Global) -> Result<Bench, AllocError> {
 
 /// A call that was not made yet.
 fn to_make(list: &mut Vec<Entry>, call: Call) -> Result<(), AllocError> {
-    list.push(Entry { call, answer: Answer::Nothing })?;
+    list.push(Entry {
+        call,
+        answer: Answer::Nothing,
+    })?;
     Ok(())
 }
 

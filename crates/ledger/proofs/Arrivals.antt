@@ -71,55 +71,81 @@ module _ (start r : Receiver) (f : Fifos) (out : List ℕ) (a : Accounted start 
   since-more = ap (λ l. bytes (start .waiting) ++ l) (bytes-append (a .since) (c ∷ [])) ∙ sym (append-assoc (bytes (start .waiting)) (bytes (a .since)) (c .byte ∷ []))
 
   joins : ltb (length (r .waiting)) (capacity f) ≡ true
-    → After start r f out (record { waiting = r .waiting ++ (c ∷ []); arrived = r .arrived ++ (c ∷ []); counts = joining (r .waiting) c (r .counts); seen = r .seen })
+      → After start r f out (record { waiting = r .waiting ++ (c ∷ []); arrived = r .arrived ++ (c ∷ []); counts = joining (r .waiting) c (r .counts); seen = r .seen })
   joins l =
       let w = length-append (r .waiting) (c ∷ []) in
       let s = length-append (a .since) (c ∷ []) in
-      record
-      { account = record
-        { since = a .since ++ (c ∷ []); came = came-more; lost = a .lost
-        ; newly = joining-lost (r .waiting) c (r .counts) ∙ a .newly
-        ; sum = omega (arith, a .sum)
-        ; order = rw since-more (subst (λ xs. Within xs ((bytes (start .waiting) ++ bytes (a .since)) ++ (c .byte ∷ [])))
-            (append-assoc out (bytes (r .waiting)) (c .byte ∷ []) ∙ ap (λ l. out ++ l) (sym (bytes-append (r .waiting) (c ∷ []))))
-            (end-kept _ _ (c .byte) (a .order))) }
-      ; grown = joining-grown (r .waiting) c (r .counts); seen = refl
-      ; single = λ e. let h = cap-one f e in let j = ltb-true (length (r .waiting)) (capacity f) l in omega arith
-      ; still = λ e. some-end (r .waiting) c }
+      record {
+        account = record {
+          since = a .since ++ (c ∷ []);
+          came = came-more;
+          lost = a .lost;
+          newly = joining-lost (r .waiting) c (r .counts) ∙ a .newly;
+          sum = omega (arith, a .sum);
+          order = rw since-more (subst (λ xs. Within xs ((bytes (start .waiting) ++ bytes (a .since)) ++ (c .byte ∷ [])))
+              (append-assoc out (bytes (r .waiting)) (c .byte ∷ []) ∙ ap (λ l. out ++ l) (sym (bytes-append (r .waiting) (c ∷ []))))
+              (end-kept _ _ (c .byte) (a .order)));
+        };
+        grown = joining-grown (r .waiting) c (r .counts);
+        seen = refl;
+        single = λ e. let h = cap-one f e in let j = ltb-true (length (r .waiting)) (capacity f) l in omega arith;
+        still = λ e. some-end (r .waiting) c;
+      }
 
   drops : After start r f out (record { waiting = r .waiting; arrived = r .arrived ++ (c ∷ []); counts = overrun (r .counts); seen = r .seen })
   drops =
       let s = length-append (a .since) (c ∷ []) in
-      record
-      { account = record
-        { since = a .since ++ (c ∷ []); came = came-more; lost = a .lost + 1; newly = omega (arith, a .newly)
-        ; sum = omega (arith, a .sum); order = rw since-more (end-left _ _ (c .byte) (a .order)) }
-      ; grown = overrun-grown (r .counts); seen = refl; single = one; still = λ e. e }
+      record {
+        account = record {
+          since = a .since ++ (c ∷ []);
+          came = came-more;
+          lost = a .lost + 1;
+          newly = omega (arith, a .newly);
+          sum = omega (arith, a .sum);
+          order = rw since-more (end-left _ _ (c .byte) (a .order));
+        };
+        grown = overrun-grown (r .counts);
+        seen = refl;
+        single = one;
+        still = λ e. e;
+      }
 
   replaces : ltb (length (r .waiting)) (capacity f) ≡ false → is-on f ≡ false
-    → After start r f out (record { waiting = c ∷ []; arrived = r .arrived ++ (c ∷ []); counts = first c (overrun (r .counts)); seen = r .seen })
+      → After start r f out (record { waiting = c ∷ []; arrived = r .arrived ++ (c ∷ []); counts = first c (overrun (r .counts)); seen = r .seen })
   replaces l e =
       let s = length-append (a .since) (c ∷ []) in
       let h = cap-one f e in
       let j = ltb-false (length (r .waiting)) (capacity f) l in
       let w : length (r .waiting) ≡ 1 = omega (arith, one e) in
-      record
-      { account = record
-        { since = a .since ++ (c ∷ []); came = came-more; lost = a .lost + 1; newly = omega (arith, a .newly)
-        ; sum = omega (arith, a .sum); order = rw since-more (end-kept _ _ (c .byte) (front-within out (bytes (r .waiting)) refl (a .order))) }
-      ; grown = grown-more _ _ _ (overrun-grown (r .counts)) (first-grown c (overrun (r .counts))); seen = refl
-      ; single = λ _. omega arith; still = λ _. refl }
+      record {
+        account = record {
+          since = a .since ++ (c ∷ []);
+          came = came-more;
+          lost = a .lost + 1;
+          newly = omega (arith, a .newly);
+          sum = omega (arith, a .sum);
+          order = rw since-more (end-kept _ _ (c .byte) (front-within out (bytes (r .waiting)) refl (a .order)));
+        };
+        grown = grown-more _ _ _ (overrun-grown (r .counts)) (first-grown c (overrun (r .counts)));
+        seen = refl;
+        single = λ _. omega arith;
+        still = λ _. refl;
+      }
 
   pub reached : After start r f out (reach f (c ∷ []) c r)
   reached = cond-both (After start r f out) _ _ _ joins (λ l. cond-both (After start r f out) (is-on f) _ _ (λ _. drops) (replaces l))
 
 -- characters arrive
 pub arrived : (start r : Receiver) (f : Fifos) (out : List ℕ) → Accounted start r out → (is-on f ≡ false → length (r .waiting) ≤ 1) → (cs : List Character)
-  → After start r f out (arrive f cs r)
+    → After start r f out (arrive f cs r)
 arrived start r f out a one [] = record { account = a; grown = grown-same (r .counts); seen = refl; single = one; still = λ e. e }
 arrived start r f out a one (c ∷ cs) =
     let p = reached start r f out a one c in
     let q = arrived start (reach f (c ∷ []) c r) f out (p .account) (p .single) cs in
-    record
-    { account = q .account; grown = grown-more _ _ _ (p .grown) (q .grown); seen = q .seen ∙ p .seen
-    ; single = q .single; still = λ e. q .still (p .still e) }
+    record {
+      account = q .account;
+      grown = grown-more _ _ _ (p .grown) (q .grown);
+      seen = q .seen ∙ p .seen;
+      single = q .single;
+      still = λ e. q .still (p .still e);
+    }

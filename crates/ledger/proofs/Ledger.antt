@@ -46,17 +46,25 @@ module _ (start : Chip·state) (base : Counts) (out gone : List ℕ) (σ : Setup
   line-moved : (m n : Chip·state) → Ledger start base out gone σ m k → Single m → Line·moved m n → After·line m n
   line-moved m n l one p =
       let a = arrived (start .receiver) (m .receiver) (m .setup .fifos) out (l .account) one (p .arrivals) in
-      let x : Chip·state = record
-            { receiver = arrive (m .setup .fifos) (p .arrivals) (m .receiver)
-            ; transmitter = record { given = m .transmitter .given; held = m .transmitter .held - p .gone; turning = m .transmitter .turning }
-            ; setup = m .setup } in
-      let y : After·line m x = record
-            { ledger = record
-              { setup = l .setup; quiet = l .quiet; fifo = l .fifo; account = a .account; given = l .given
-              ; saved = subst (λ c. Shows·errors (k .lsr) base c) (sym (a .seen)) (l .saved)
-              ; older = subst (λ c. Grown base c) (sym (a .seen)) (l .older)
-              ; newer = subst (λ c. Grown c (arrive (m .setup .fifos) (p .arrivals) (m .receiver) .counts)) (sym (a .seen)) (grown-more _ _ _ (l .newer) (a .grown)) }
-            ; still = a .still; less = omega arith } in
+      let x : Chip·state = record {
+        receiver = arrive (m .setup .fifos) (p .arrivals) (m .receiver);
+        transmitter = record { given = m .transmitter .given; held = m .transmitter .held - p .gone; turning = m .transmitter .turning };
+        setup = m .setup;
+      } in
+      let y : After·line m x = record {
+        ledger = record {
+          setup = l .setup;
+          quiet = l .quiet;
+          fifo = l .fifo;
+          account = a .account;
+          given = l .given;
+          saved = subst (λ c. Shows·errors (k .lsr) base c) (sym (a .seen)) (l .saved);
+          older = subst (λ c. Grown base c) (sym (a .seen)) (l .older);
+          newer = subst (λ c. Grown c (arrive (m .setup .fifos) (p .arrivals) (m .receiver) .counts)) (sym (a .seen)) (grown-more _ _ _ (l .newer) (a .grown));
+        };
+        still = a .still;
+        less = omega arith;
+      } in
       subst (λ z. After·line m z) (sym (p .after)) y
 
   pub moved : (m n : Chip·state) → Ledger start base out gone σ m k → Single m → Moved m n → After·line m n
@@ -64,18 +72,22 @@ module _ (start : Chip·state) (base : Counts) (out gone : List ℕ) (σ : Setup
 
   -- a read of the line status: its errors are saved
   pub noticed-ledger : (m : Chip·state) (v : ℕ) → Ledger start base out gone σ m k → Status m v
-    → Ledger start base out gone σ (with-receiver m (noticed (m .receiver))) (noting k (v ∷ []) [])
-  noticed-ledger m v l s = record
-    { setup = l .setup; quiet = l .quiet; fifo = l .fifo
-    ; account = record { since = l .account .since; came = l .account .came; lost = l .account .lost; newly = l .account .newly; sum = l .account .sum; order = l .account .order }
-    ; given = l .given
-    ; saved = shows-joined (k .lsr) v base (m .receiver .seen) (m .receiver .counts) (l .saved)
-        (record { overrun = s .overrun; parity = s .parity; framing = s .framing; broken = s .broken }) (l .older) (l .newer)
-    ; older = grown-more _ _ _ (l .older) (l .newer); newer = grown-same (m .receiver .counts) }
+      → Ledger start base out gone σ (with-receiver m (noticed (m .receiver))) (noting k (v ∷ []) [])
+  noticed-ledger m v l s = record {
+    setup = l .setup;
+    quiet = l .quiet;
+    fifo = l .fifo;
+    account = record { since = l .account .since; came = l .account .came; lost = l .account .lost; newly = l .account .newly; sum = l .account .sum; order = l .account .order };
+    given = l .given;
+    saved = shows-joined (k .lsr) v base (m .receiver .seen) (m .receiver .counts) (l .saved)
+        (record { overrun = s .overrun; parity = s .parity; framing = s .framing; broken = s .broken }) (l .older) (l .newer);
+    older = grown-more _ _ _ (l .older) (l .newer);
+    newer = grown-same (m .receiver .counts);
+  }
 
   -- a character is read
   pub taken-ledger : (m n : Chip·state) (v : ℕ) (ws : List Character) → Ledger start base out gone σ m k → m .receiver .waiting ≡ ws → some-wait ws ≡ true → Takes ws m v n
-    → Ledger start base (out ++ (v ∷ [])) gone σ n k
+      → Ledger start base (out ++ (v ∷ [])) gone σ n k
   taken-ledger m n v [] l e h t = let z : _≡_ {A = ℕ} 0 1 = cc in absurd (omega arith)
   taken-ledger m n v (c ∷ cs) l e h t =
       let r : Receiver = record { waiting = cs; arrived = m .receiver .arrived; counts = next-first cs (m .receiver .counts); seen = m .receiver .seen } in
@@ -83,29 +95,50 @@ module _ (start : Chip·state) (base : Counts) (out gone : List ℕ) (σ : Setup
       let f = length-append out (v ∷ []) in
       let g : length (m .receiver .waiting) ≡ length cs + 1 = ap length e ∙ omega arith in
       let o : Within ((out ++ (v ∷ [])) ++ bytes cs) (bytes (start .receiver .waiting) ++ bytes (a .since)) =
-            subst (λ b. Within ((out ++ (b ∷ [])) ++ bytes cs) (bytes (start .receiver .waiting) ++ bytes (a .since))) (sym (t .0))
-            (rw (append-assoc out (c .byte ∷ []) (bytes cs)) (subst (λ w. Within (out ++ bytes w) (bytes (start .receiver .waiting) ++ bytes (a .since))) e (a .order))) in
+      subst (λ b. Within ((out ++ (b ∷ [])) ++ bytes cs) (bytes (start .receiver .waiting) ++ bytes (a .since))) (sym (t .0))
+      (rw (append-assoc out (c .byte ∷ []) (bytes cs)) (subst (λ w. Within (out ++ bytes w) (bytes (start .receiver .waiting) ++ bytes (a .since))) e (a .order))) in
       subst (λ x. Ledger start base (out ++ (v ∷ [])) gone σ x k) (sym (t .1))
-      (record
-      { setup = l .setup; quiet = l .quiet; fifo = l .fifo
-      ; account = record { since = a .since; came = a .came; lost = a .lost; newly = next-lost cs (m .receiver .counts) ∙ a .newly; sum = omega (arith, a .sum); order = o }
-      ; given = l .given; saved = l .saved; older = l .older; newer = grown-more _ _ _ (l .newer) (next-grown cs (m .receiver .counts)) })
+      (record {
+        setup = l .setup;
+        quiet = l .quiet;
+        fifo = l .fifo;
+        account = record { since = a .since; came = a .came; lost = a .lost; newly = next-lost cs (m .receiver .counts) ∙ a .newly; sum = omega (arith, a .sum); order = o };
+        given = l .given;
+        saved = l .saved;
+        older = l .older;
+        newer = grown-more _ _ _ (l .newer) (next-grown cs (m .receiver .counts));
+      })
 
   -- a byte is taken for the line
   pub sent-ledger : (m : Chip·state) (room v : ℕ) → Ledger start base out gone σ m k → load m < room
-    → Ledger start base out (gone ++ (v ∷ [])) σ (with-transmitter m (sent false room v (m .transmitter))) k × (load (with-transmitter m (sent false room v (m .transmitter))) ≤ load m + 1)
+      → Ledger start base out (gone ++ (v ∷ [])) σ (with-transmitter m (sent false room v (m .transmitter))) k × (load (with-transmitter m (sent false room v (m .transmitter))) ≤ load m + 1)
   sent-ledger m room v l h =
       let b = lt-ltb (load m) room h in
       let t : Transmitter = record { given = m .transmitter .given ++ (v ∷ []); held = m .transmitter .held + 1; turning = m .transmitter .turning } in
       let e : sent false room v (m .transmitter) ≡ t = ap (λ x. cond x t (m .transmitter)) b in
-      subst (λ x. Ledger start base out (gone ++ (v ∷ [])) σ (with-transmitter m x) k × (load (with-transmitter m x) ≤ load m + 1)) (sym e)
-      (record
-      { setup = l .setup; quiet = l .quiet; fifo = l .fifo; account = l .account
-      ; given = ap (λ g. g ++ (v ∷ [])) (l .given) ∙ append-assoc (start .transmitter .given) gone (v ∷ [])
-      ; saved = l .saved; older = l .older; newer = l .newer }, omega arith)
+      subst (λ x. Ledger start base out (gone ++ (v ∷ [])) σ (with-transmitter m x) k × (load (with-transmitter m x) ≤ load m + 1)) (sym e) (
+        record {
+          setup = l .setup;
+          quiet = l .quiet;
+          fifo = l .fifo;
+          account = l .account;
+          given = ap (λ g. g ++ (v ∷ [])) (l .given) ∙ append-assoc (start .transmitter .given) gone (v ∷ []);
+          saved = l .saved;
+          older = l .older;
+          newer = l .newer;
+        },
+        omega arith,
+      )
 
   -- the line control is written
   pub controlled-ledger : (m : Chip·state) (v : ℕ) → Ledger start base out gone σ m k → Ledger start base out gone (with-lcr σ v) (with-setup m (with-lcr (m .setup) v)) k
-  controlled-ledger m v l = record
-    { setup = ap (λ s. with-lcr s v) (l .setup); quiet = l .quiet; fifo = l .fifo; account = l .account; given = l .given
-    ; saved = l .saved; older = l .older; newer = l .newer }
+  controlled-ledger m v l = record {
+    setup = ap (λ s. with-lcr s v) (l .setup);
+    quiet = l .quiet;
+    fifo = l .fifo;
+    account = l .account;
+    given = l .given;
+    saved = l .saved;
+    older = l .older;
+    newer = l .newer;
+  }

@@ -34,7 +34,6 @@ any-true false = refl
 
 module _ {S : Type 0} (d : Device S) (meaning : S → Chip·state) (law : Keeps·rules d meaning) (start : Chip·state) (base : Counts) (σ : Setup)
     (open-σ : contains (σ .lcr) divisor-access ≡ false) where
-
   -- a run is two runs
   pub runs-split : (xs ys : List Access) (s t : S) → Runs d (xs ++ ys) s t → (u : S) × Runs d xs s u × Runs d ys u t
   runs-split [] ys s t r = (s, refl, r)
@@ -42,7 +41,7 @@ module _ {S : Type 0} (d : Device S) (meaning : S → Chip·state) (law : Keeps�
 
   -- tries to receive: what they took is handed out
   pub tries-kept : (ts : List Try) (out gone : List ℕ) (s t : S) (k : Kept) → Sound ts → Runs d (tries ts) s t → At d meaning law start base out gone σ s k
-    → At d meaning law start base (out ++ got ts) gone σ t (noting k (statuses ts) [])
+      → At d meaning law start base (out ++ got ts) gone σ t (noting k (statuses ts) [])
   tries-kept [] out gone s t k h r l = rw append-nil (subst (λ u. At d meaning law start base out gone σ u k) r l)
   tries-kept (took v b ∷ ts) out gone s t k h r l =
       let p = read-lsr d meaning law start base out gone σ s k l v (r .0) in
@@ -55,7 +54,7 @@ module _ {S : Type 0} (d : Device S) (meaning : S → Chip·state) (law : Keeps�
 
   -- bytes written while there is room for them
   pub writes-kept : (bs out gone : List ℕ) (i : ℕ) (s t : S) (k : Kept) → load (meaning s) ≤ i → i + length bs ≤ capacity (σ .fifos) → Runs d (writes-of bs) s t
-    → At d meaning law start base out gone σ s k → At d meaning law start base out (gone ++ bs) σ t k
+      → At d meaning law start base out gone σ s k → At d meaning law start base out (gone ++ bs) σ t k
   writes-kept [] out gone i s t k h c r l = rw append-nil (subst (λ u. At d meaning law start base out gone σ u k) r l)
   writes-kept (b ∷ bs) out gone i s t k h c r l =
       let p = write-data d meaning law start base out gone σ s k l b i open-σ h (omega arith) in
@@ -97,8 +96,8 @@ module _ {S : Type 0} (d : Device S) (meaning : S → Chip·state) (law : Keeps�
 
   -- one attempt to send: the line is given its bytes
   attempt-kept : (a : Attempt) (out gone buffer : List ℕ) (s u t : S) (k n : Kept) → n .fifo ≡ k .fifo → Attempted n buffer a
-    → Runs d (asks (a .question)) s u → Runs d (writes-of (a .bytes)) u t → At d meaning law start base out gone σ s k
-    → At d meaning law start base out (gone ++ a .bytes) σ t (noting k (line-status (a .question) ∷ []) (modem-status (a .question)))
+      → Runs d (asks (a .question)) s u → Runs d (writes-of (a .bytes)) u t → At d meaning law start base out gone σ s k
+      → At d meaning law start base out (gone ++ a .bytes) σ t (noting k (line-status (a .question) ∷ []) (modem-status (a .question)))
   attempt-kept a out gone buffer s u t k n e (wrote q h) r w l =
       let p = asked-kept q out gone s u k r l in
       let f = p .free (yes-free _ q h) in
@@ -111,7 +110,7 @@ module _ {S : Type 0} (d : Device S) (meaning : S → Chip·state) (law : Keeps�
 
   -- attempts to send: what they took is given to the line
   pub attempts-kept : (as′ : List Attempt) (out gone buffer : List ℕ) (s t : S) (k n : Kept) → n .fifo ≡ k .fifo → Attempts n buffer as′ → Runs d (attempts as′) s t
-    → At d meaning law start base out gone σ s k → At d meaning law start base out (gone ++ taken as′) σ t (noting k (line-statuses as′) (modem-statuses as′))
+      → At d meaning law start base out gone σ s k → At d meaning law start base out (gone ++ taken as′) σ t (noting k (line-statuses as′) (modem-statuses as′))
   attempts-kept [] out gone buffer s t k n e h r l = rw append-nil (subst (λ u. At d meaning law start base out gone σ u k) r l)
   attempts-kept (a ∷ as′) out gone buffer s t k n e h r l =
       let x = runs-split (asks (a .question) ++ writes-of (a .bytes)) (attempts as′) s t r in
@@ -121,7 +120,7 @@ module _ {S : Type 0} (d : Device S) (meaning : S → Chip·state) (law : Keeps�
       let f = attempts-kept as′ out (gone ++ a .bytes) (drop (length (a .bytes)) buffer) (x .0) t m n e (h .2) (x .2) p in
       subst (λ o. At d meaning law start base out o σ t (noting k (line-status (a .question) ∷ line-statuses as′) (modem-status (a .question) ++ modem-statuses as′))) (append-assoc gone (a .bytes) (taken as′))
       (subst (λ o. At d meaning law start base out ((gone ++ a .bytes) ++ taken as′) σ t o)
-        (noting-append k (line-status (a .question) ∷ []) (modem-status (a .question)) (line-statuses as′) (modem-statuses as′)) f)
+      (noting-append k (line-status (a .question) ∷ []) (modem-status (a .question)) (line-statuses as′) (modem-statuses as′)) f)
 
   -- patterns to the scratch register, and its old byte
   patterns-kept : (r : Bool) (xs : List Access) (out gone : List ℕ) (s t : S) (k : Kept) → Patterns r xs → Runs d xs s t → At d meaning law start base out gone σ s k → At d meaning law start base out gone σ t k

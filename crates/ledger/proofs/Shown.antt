@@ -63,23 +63,27 @@ pub grown-same : (a : Counts) → Grown a a
 grown-same a = record { lost = omega arith; parity = omega arith; framing = omega arith; broken = omega arith }
 
 pub grown-more : (a b c : Counts) → Grown a b → Grown b c → Grown a c
-grown-more a b c p q = record
-  { lost = omega (arith, p .lost, q .lost); parity = omega (arith, p .parity, q .parity)
-  ; framing = omega (arith, p .framing, q .framing); broken = omega (arith, p .broken, q .broken) }
+grown-more a b c p q = record {
+  lost = omega (arith, p .lost, q .lost);
+  parity = omega (arith, p .parity, q .parity);
+  framing = omega (arith, p .framing, q .framing);
+  broken = omega (arith, p .broken, q .broken);
+}
 
 -- one error in a saved byte joined with one that was read
 one-joined : (k s v a b c : ℕ) → bit k line-errors ≡ 1 → contains s (2 ^ k) ≡ ltb a b → contains v (2 ^ k) ≡ ltb b c → a ≤ b → b ≤ c
-  → contains (bitOr s (bitAnd v line-errors)) (2 ^ k) ≡ ltb a c
+    → contains (bitOr s (bitAnd v line-errors)) (2 ^ k) ≡ ltb a c
 one-joined k s v a b c m p q h j =
     contains-or k s (bitAnd v line-errors) ∙ ap (λ x. contains s (2 ^ k) || x) (contains-under k v line-errors m ∙ q) ∙ ap (λ x. x || ltb b c) p ∙ grew a b c h j
 
 -- all four
 pub shows-joined : (s v : ℕ) (a b c : Counts) → Shows·errors s a b → Shows·errors v b c → Grown a b → Grown b c → Shows·errors (bitOr s (bitAnd v line-errors)) a c
-shows-joined s v a b c p q g h = record
-  { overrun = one-joined 1 s v (a .lost) (b .lost) (c .lost) refl (p .overrun) (q .overrun) (g .lost) (h .lost)
-  ; parity = one-joined 2 s v (a .parity) (b .parity) (c .parity) refl (p .parity) (q .parity) (g .parity) (h .parity)
-  ; framing = one-joined 3 s v (a .framing) (b .framing) (c .framing) refl (p .framing) (q .framing) (g .framing) (h .framing)
-  ; broken = one-joined 4 s v (a .broken) (b .broken) (c .broken) refl (p .broken) (q .broken) (g .broken) (h .broken) }
+shows-joined s v a b c p q g h = record {
+  overrun = one-joined 1 s v (a .lost) (b .lost) (c .lost) refl (p .overrun) (q .overrun) (g .lost) (h .lost);
+  parity = one-joined 2 s v (a .parity) (b .parity) (c .parity) refl (p .parity) (q .parity) (g .parity) (h .parity);
+  framing = one-joined 3 s v (a .framing) (b .framing) (c .framing) refl (p .framing) (q .framing) (g .framing) (h .framing);
+  broken = one-joined 4 s v (a .broken) (b .broken) (c .broken) refl (p .broken) (q .broken) (g .broken) (h .broken);
+}
 
 again : (x y : Bool) → (x || (y || x)) ≡ (y || x)
 again true true = refl
@@ -97,9 +101,12 @@ one-answered k s v m =
 
 -- a byte that was read, joined with what it was saved to, shows no more errors than the saved byte
 pub shows-answered : (s v : ℕ) (a c : Counts) → Shows·errors (bitOr s (bitAnd v line-errors)) a c → Shows·errors (bitOr v (bitOr s (bitAnd v line-errors))) a c
-shows-answered s v a c p = record
-  { overrun = one-answered 1 s v refl ∙ p .overrun; parity = one-answered 2 s v refl ∙ p .parity
-  ; framing = one-answered 3 s v refl ∙ p .framing; broken = one-answered 4 s v refl ∙ p .broken }
+shows-answered s v a c p = record {
+  overrun = one-answered 1 s v refl ∙ p .overrun;
+  parity = one-answered 2 s v refl ∙ p .parity;
+  framing = one-answered 3 s v refl ∙ p .framing;
+  broken = one-answered 4 s v refl ∙ p .broken;
+}
 
 none-grown : (n : ℕ) → false ≡ ltb n n
 none-grown n = sym (le-ltb n n (omega arith))

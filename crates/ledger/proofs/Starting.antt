@@ -150,14 +150,16 @@ module _ {S : Type 0} (d : Device S) (meaning : S → Chip·state) (law : Keeps�
 
   -- the driver knows whether the FIFOs are on
   fifo-set : (level : Option FifoTriggerLevel) (b : Bool) (xs : List Access) (s t : S) (σ : Setup) → Fifo·set-up level b xs → Runs d xs s t → Set d meaning law s σ
-    → (f : Fifos) × Set d meaning law t (with-fifos σ f) × (b ≡ is-on f)
+      → (f : Fifos) × Set d meaning law t (with-fifos σ f) × (b ≡ is-on f)
   fifo-set level b xs s t σ unwanted w h =
       (turned (σ .fifos) (fifo-control None), subst (λ u. Set d meaning law u (with-fifos σ (turned (σ .fifos) (fifo-control None)))) (w .1) (setting.wr-fcr d meaning law s σ h (fifo-control None)), turned-off (σ .fifos))
   fifo-set level b xs s t σ (asked l isr) w h =
       let f = turned (σ .fifos) (fifo-control (Some l)) in
-      let a = setting.wr-fcr d meaning law s σ h (fifo-control (Some l)) in
-      (f, subst (λ u. Set d meaning law u (with-fifos σ f)) (w .1 .1) (setting.rd-isr d meaning law _ (with-fifos σ f) a),
-       ap (λ v. contains v fifos-on) (w .1 .0) ∙ shown-on f _ (setting.isr-shows d meaning law _ (with-fifos σ f) a))
+      let a = setting.wr-fcr d meaning law s σ h (fifo-control (Some l)) in (
+        f,
+        subst (λ u. Set d meaning law u (with-fifos σ f)) (w .1 .1) (setting.rd-isr d meaning law _ (with-fifos σ f) a),
+        ap (λ v. contains v fifos-on) (w .1 .0) ∙ shown-on f _ (setting.isr-shows d meaning law _ (with-fifos σ f) a),
+      )
 
   discarded-set : (n : ℕ) (xs : List Access) (s t : S) (σ : Setup) → Discarded n xs → Runs d xs s t → Set d meaning law s σ → Set d meaning law t σ
   discarded-set n xs s t σ all-read w h = subst (λ u. Set d meaning law u σ) w h
@@ -170,7 +172,7 @@ module _ {S : Type 0} (d : Device S) (meaning : S → Chip·state) (law : Keeps�
 
   -- up to the wait
   opened-set : (c : Config) (dv : ℕ) (b : Bool) (xs : List Access) (s t : S) (σ : Setup) → Opened c dv b xs → Runs d xs s t → Set d meaning law s σ
-    → (f : Fifos) × Set d meaning law t (set c dv 0x0B f) × (b ≡ is-on f)
+      → (f : Fifos) × Set d meaning law t (set c dv 0x0B f) × (b ≡ is-on f)
   opened-set c dv b xs s t σ (opened ys zs fs ds) w h =
       let x = runs-split (line-set-up c dv ++ ys ++ zs) (wr 4 0x0B ∷ []) s t w in
       let y = runs-split (line-set-up c dv ++ ys) zs s (x .0) (x .1) in
@@ -186,17 +188,26 @@ module _ {S : Type 0} (d : Device S) (meaning : S → Chip·state) (law : Keeps�
 
   -- nothing has been handed out or taken yet
   first-entry : (u : S) (σ : Setup) (l : Kept) → Set d meaning law (d .reader .next u 5) σ → contains (σ .mcr) loop-back ≡ false → l .fifo ≡ is-on (σ .fifos) → l .lsr ≡ 0
-    → At d meaning law (meaning (d .reader .next u 5)) (meaning (d .reader .next u 5) .receiver .counts) [] [] σ (d .reader .next u 5) l
+      → At d meaning law (meaning (d .reader .next u 5)) (meaning (d .reader .next u 5) .receiver .counts) [] [] σ (d .reader .next u 5) l
   first-entry u σ l h q f z =
       let m = meaning (d .reader .next u 5) in
-      record
-      { setup = h; quiet = q; fifo = f
-      ; account = record
-        { since = []; came = sym (append-nil (m .receiver .arrived)); lost = 0; newly = omega arith; sum = omega arith
-        ; order = rw append-nil (within-same (bytes (m .receiver .waiting))) }
-      ; given = sym (append-nil (m .transmitter .given))
-      ; saved = rw (z, fresh u) (shows-none (m .receiver .counts))
-      ; older = rw (fresh u) (grown-same (m .receiver .counts)); newer = rw (fresh u) (grown-same (m .receiver .counts)) }
+      record {
+        setup = h;
+        quiet = q;
+        fifo = f;
+        account = record {
+          since = [];
+          came = sym (append-nil (m .receiver .arrived));
+          lost = 0;
+          newly = omega arith;
+          sum = omega arith;
+          order = rw append-nil (within-same (bytes (m .receiver .waiting)));
+        };
+        given = sym (append-nil (m .transmitter .given));
+        saved = rw (z, fresh u) (shows-none (m .receiver .counts));
+        older = rw (fresh u) (grown-same (m .receiver .counts));
+        newer = rw (fresh u) (grown-same (m .receiver .counts));
+      }
 
   pub record Begun (c : Config) (all : List Access) (s t : S) (l : Kept) : Type 0 where
     pub start : Start d all s t
@@ -226,15 +237,28 @@ module _ {S : Type 0} (d : Device S) (meaning : S → Chip·state) (law : Keeps�
       let j₃ = steps.write-ier d meaning law m (m .receiver .counts) [] [] σ₁ _ _ (j₂ .ledger) (c .interrupts) open-σ in
       let tail = runs-append d (rd 2 i ∷ rd 6 e ∷ []) (wr 1 (c .interrupts) ∷ []) (d .reader .next u 5) (x .0) t (y .2 .1) (x .2) in
       let end : At d meaning law m (m .receiver .counts) [] [] σ₁ t (with-saved (with-fifo (with-config k c) b) 0 0) =
-            subst (λ v. At d meaning law m (m .receiver .counts) [] [] σ₁ v (with-saved (with-fifo (with-config k c) b) 0 0)) (tail .1 .1 .1) (j₃ .ledger) in
-      record
-      { start = record
-        { before = xs ++ ys ++ ps; status = a; at = d .reader .next u 5; rest = rd 2 i ∷ rd 6 e ∷ wr 1 (c .interrupts) ∷ []
-        ; parts = append-assoc (xs ++ ys ++ ps) (rd 5 a ∷ rd 2 i ∷ rd 6 e ∷ []) (wr 1 (c .interrupts) ∷ [])
-        ; reached = runs-append d (xs ++ ys ++ ps) (rd 5 a ∷ []) s u (d .reader .next u 5) (y .1) (y .2 .0, refl)
-        ; left = tail
-        ; last = ((λ z. let y : _≡_ {A = ℕ} 2 5 = ap (λ x. x .offset) z in omega arith), ((λ z. let y : _≡_ {A = ℕ} 6 5 = ap (λ x. x .offset) z in omega arith), ((λ z. let y : _≡_ {A = ℕ} 1 5 = ap (λ x. x .offset) z in omega arith), tt))) }
-      ; set-up = record
-        { divisor = dv; right = h; low = ap (λ x. x .dll) (end .setup); high = ap (λ x. x .dlm) (end .setup); framed = ap (λ x. x .lcr) (end .setup)
-        ; raised = ap (λ x. x .mcr) (end .setup); fifos = o .2 ∙ sym (ap (λ x. is-on (x .fifos)) (end .setup)) }
-      ; σ = σ₁; closed = open-σ; ledger = end }
+      subst (λ v. At d meaning law m (m .receiver .counts) [] [] σ₁ v (with-saved (with-fifo (with-config k c) b) 0 0)) (tail .1 .1 .1) (j₃ .ledger) in
+      record {
+        start = record {
+          before = xs ++ ys ++ ps;
+          status = a;
+          at = d .reader .next u 5;
+          rest = rd 2 i ∷ rd 6 e ∷ wr 1 (c .interrupts) ∷ [];
+          parts = append-assoc (xs ++ ys ++ ps) (rd 5 a ∷ rd 2 i ∷ rd 6 e ∷ []) (wr 1 (c .interrupts) ∷ []);
+          reached = runs-append d (xs ++ ys ++ ps) (rd 5 a ∷ []) s u (d .reader .next u 5) (y .1) (y .2 .0, refl);
+          left = tail;
+          last = ((λ z. let y : _≡_ {A = ℕ} 2 5 = ap (λ x. x .offset) z in omega arith), ((λ z. let y : _≡_ {A = ℕ} 6 5 = ap (λ x. x .offset) z in omega arith), ((λ z. let y : _≡_ {A = ℕ} 1 5 = ap (λ x. x .offset) z in omega arith), tt)));
+        };
+        set-up = record {
+          divisor = dv;
+          right = h;
+          low = ap (λ x. x .dll) (end .setup);
+          high = ap (λ x. x .dlm) (end .setup);
+          framed = ap (λ x. x .lcr) (end .setup);
+          raised = ap (λ x. x .mcr) (end .setup);
+          fifos = o .2 ∙ sym (ap (λ x. is-on (x .fifos)) (end .setup));
+        };
+        σ = σ₁;
+        closed = open-σ;
+        ledger = end;
+      }

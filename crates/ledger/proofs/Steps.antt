@@ -91,36 +91,46 @@ module _ {S : Type 0} (d : Device S) (meaning : S → Chip·state) (law : Keeps�
         let r = law .reading s 5 (lit< tt) in
         let a = moved start base out gone σ k (meaning s) (r .mid) l (law .single s) (r .before) in
         let x = r .acts .line-status refl in
-        rw e (record
-        { ledger = rw (x .1) (noticed-ledger start base out gone σ k (r .mid) (d .reader .gives s 5) (a .ledger) (x .0))
-        ; ready = rw (x .1) (x .0 .ready); room = rw (x .1) (x .0 .room); fresh = rw (x .1) refl })
+        rw e (record {
+          ledger = rw (x .1) (noticed-ledger start base out gone σ k (r .mid) (d .reader .gives s 5) (a .ledger) (x .0));
+          ready = rw (x .1) (x .0 .ready);
+          room = rw (x .1) (x .0 .room);
+          fresh = rw (x .1) refl;
+        })
 
     -- a character that waits is read
     pub read-data : (v : ℕ) → v ≡ d .reader .gives s 0 → contains (σ .lcr) divisor-access ≡ false → some-wait (meaning s .receiver .waiting) ≡ true
-      → At base (out ++ (v ∷ [])) gone σ (d .reader .next s 0) k
+        → At base (out ++ (v ∷ [])) gone σ (d .reader .next s 0) k
     read-data v e o w =
         let r = law .reading s 0 (lit< tt) in
         let a = moved start base out gone σ k (meaning s) (r .mid) l (law .single s) (r .before) in
         rw e (taken-ledger start base out gone σ k (r .mid) _ _ (r .mid .receiver .waiting) (a .ledger) refl (a .still w)
-          (r .acts .taken refl (reached (r .mid) (r .before) false o)))
+        (r .acts .taken refl (reached (r .mid) (r .before) false o)))
 
     -- a byte is written where there is room
     pub write-data : (v i : ℕ) → contains (σ .lcr) divisor-access ≡ false → load (meaning s) ≤ i → i < capacity (σ .fifos)
-      → At base out (gone ++ (v ∷ [])) σ (d .write s 0 v) k × (load (meaning (d .write s 0 v)) ≤ i + 1)
+        → At base out (gone ++ (v ∷ [])) σ (d .write s 0 v) k × (load (meaning (d .write s 0 v)) ≤ i + 1)
     write-data v i o h c =
         let w = law .writing s 0 v (lit< tt) in
         let a = moved start base out gone σ k (meaning s) (w .mid) l (law .single s) (w .before) in
         let q : looping (w .mid) ≡ false = ap (λ x. contains (x .mcr) loop-back) (a .ledger .setup) ∙ a .ledger .quiet in
         let f : capacity (w .mid .setup .fifos) ≡ capacity (σ .fifos) = ap (λ x. capacity (x .fifos)) (a .ledger .setup) in
         let e : meaning (d .write s 0 v) ≡ with-transmitter (w .mid) (sent false (capacity (σ .fifos)) v (w .mid .transmitter)) =
-              w .acts .given refl (reached (w .mid) (w .before) false o)
-              ∙ ap (λ b. with-transmitter (w .mid) (sent b (capacity (w .mid .setup .fifos)) v (w .mid .transmitter))) q
-              ∙ ap (λ n. with-transmitter (w .mid) (sent false n v (w .mid .transmitter))) f in
+        w .acts .given refl (reached (w .mid) (w .before) false o)
+        ∙ ap (λ b. with-transmitter (w .mid) (sent b (capacity (w .mid .setup .fifos)) v (w .mid .transmitter))) q
+        ∙ ap (λ n. with-transmitter (w .mid) (sent false n v (w .mid .transmitter))) f in
         let g = sent-ledger start base out gone σ k (w .mid) (capacity (σ .fifos)) v (a .ledger) (omega (arith, a .less)) in
         rw e (g .0, omega (arith, g .1, a .less))
 
   -- what the driver saves of the modem status is not in the ledger
   pub same-line : (base : Counts) (out gone : List ℕ) (σ : Setup) (s : S) (k n : Kept) → n .lsr ≡ k .lsr → n .fifo ≡ k .fifo → At base out gone σ s k → At base out gone σ s n
-  same-line base out gone σ s k n e f l = record
-    { setup = l .setup; quiet = l .quiet; fifo = f ∙ l .fifo; account = l .account; given = l .given
-    ; saved = rw e (l .saved); older = l .older; newer = l .newer }
+  same-line base out gone σ s k n e f l = record {
+    setup = l .setup;
+    quiet = l .quiet;
+    fifo = f ∙ l .fifo;
+    account = l .account;
+    given = l .given;
+    saved = rw e (l .saved);
+    older = l .older;
+    newer = l .newer;
+  }

@@ -62,7 +62,7 @@ Played d meaning s k [] [] t l = (s ≡ t) × (k ≡ l)
 Played d meaning s k [] (m ∷ ms) t l = ⊥
 Played d meaning s k (e ∷ es) [] t l = ⊥
 Played {S} d meaning s k (e ∷ es) (m ∷ ms) t l =
-  (u : S) × (n : Kept) × ((c : Call) × Did d s u k n c (e .call) (e .answer)) × (meaning u ≡ m) × Played d meaning u n es ms t l
+    (u : S) × (n : Kept) × ((c : Call) × Did d s u k n c (e .call) (e .answer)) × (meaning u ≡ m) × Played d meaning u n es ms t l
 
 -- what an answer of the line status getter has to show
 abbrev pub Answer·shows : Answer → Counts → Counts → Type 0
@@ -79,20 +79,38 @@ Answer·shows (answer.Divisor a b) before now = Unit {0}
 Answer·shows (answer.Dump v) before now = Unit {0}
 
 abbrev pub is-lsr : Entry → Bool
-is-lsr e = elim (e .call)
-  [ call.TryReceive ↦ false | call.Receive v ↦ false | call.ReceiveExact v n ↦ false | call.ReadyToReceive ↦ false
-  | call.TrySend b ↦ false | call.Send v ↦ false | call.SendExact v n ↦ false | call.ReadyToSend ↦ false
-  | call.CheckConnected ↦ false | call.CheckPresent ↦ false | call.EnableInterrupts b ↦ false | call.DisableInterrupts b ↦ false
-  | call.Ier ↦ false | call.Isr ↦ false | call.Lcr ↦ false | call.Mcr ↦ false | call.Lsr ↦ true | call.Msr ↦ false | call.Spr ↦ false
-  | call.DllDlm ↦ false | call.Dump ↦ false ]
+is-lsr e = elim (e .call) [
+  | call.TryReceive ↦ false
+  | call.Receive v ↦ false
+  | call.ReceiveExact v n ↦ false
+  | call.ReadyToReceive ↦ false
+  | call.TrySend b ↦ false
+  | call.Send v ↦ false
+  | call.SendExact v n ↦ false
+  | call.ReadyToSend ↦ false
+  | call.CheckConnected ↦ false
+  | call.CheckPresent ↦ false
+  | call.EnableInterrupts b ↦ false
+  | call.DisableInterrupts b ↦ false
+  | call.Ier ↦ false
+  | call.Isr ↦ false
+  | call.Lcr ↦ false
+  | call.Mcr ↦ false
+  | call.Lsr ↦ true
+  | call.Msr ↦ false
+  | call.Spr ↦ false
+  | call.DllDlm ↦ false
+  | call.Dump ↦ false
+]
 
 -- Each lsr() shows an error exactly when its count has grown since the end of the list's previous lsr(), or since the start.
 abbrev pub Errors·shown : Counts → List Entry → List Chip·state → Type 0
 Errors·shown before [] ms = Unit {0}
 Errors·shown before (e ∷ es) [] = Unit {0}
-Errors·shown before (e ∷ es) (m ∷ ms) = elim (is-lsr e)
-  [ true ↦ Answer·shows (e .answer) before (m .receiver .counts) × Errors·shown (m .receiver .counts) es ms
-  | false ↦ Errors·shown before es ms ]
+Errors·shown before (e ∷ es) (m ∷ ms) = elim (is-lsr e) [
+  | true ↦ Answer·shows (e .answer) before (m .receiver .counts) × Errors·shown (m .receiver .counts) es ms
+  | false ↦ Errors·shown before es ms
+]
 
 -- no access of the list reads the line status
 abbrev pub No·status : List Access → Type 0

@@ -24,7 +24,10 @@ pub fn perform<B: Backend>(uart: &mut Uart16550<B>, call: &mut Call) -> Answer
     match call {
         Call::TryReceive => Answer::Byte(uart.try_receive_byte()),
         Call::Receive(buffer) => Answer::Count(uart.receive_bytes(buffer)),
-        Call::ReceiveExact(buffer, budget) => Answer::Exact(uart.receive_bytes_exact(buffer, *budget)),
+        Call::ReceiveExact(buffer, budget) => Answer::Exact(uart.receive_bytes_exact(
+            buffer,
+            *budget,
+        )),
         Call::ReadyToReceive => Answer::ReadyToReceive(uart.ready_to_receive()),
         Call::TrySend(byte) => Answer::Sent(uart.try_send_byte(*byte)),
         Call::Send(bytes) => Answer::Count(uart.send_bytes(bytes)),
@@ -59,7 +62,12 @@ pub fn perform<B: Backend>(uart: &mut Uart16550<B>, call: &mut Call) -> Answer
 ///
 /// Of every driver, chip and list, whenever characters arrive or leave: no character is lost in
 /// silence, the line is given exactly what sends report taken, and `lsr` tells of every error.
-pub fn play<C: Chip>(uart: &mut Uart16550<C>, config: Config, budget: u16, calls: &mut [Entry]) -> Waited<Result<(), InitError>>
+pub fn play<C: Chip>(
+    uart: &mut Uart16550<C>,
+    config: Config,
+    budget: u16,
+    calls: &mut [Entry],
+) -> Waited<Result<(), InitError>>
     ensures { λ r. ⌜ Outcome (C·Backend .device) (C·Chip .meaning) config budget (now (uart .entry) .backend) (now (uart .exit) .backend) (kept (now (uart .entry))) (kept (now (uart .exit))) (now (calls .entry)) (now (calls .exit)) (verdict init-refusal (r .result)) (r .fruitless) ⌝ }
 {
     let answer = uart.init(config, budget);

@@ -12,13 +12,13 @@ pub returns-in-Receive : need.returns-in-Receive
 returns-in-Receive g c =
     let e = refilled-is (c .in-Receive .buffer) (c .receive-bytes .last .buffer) (c .receive-bytes .kept .buffer ∙ c .deref-mut .ensures .len) in
     rw (c .in-Receive .is) (did.receive (c .in-Receive .buffer) (refilled (c .in-Receive .buffer) (c .receive-bytes .last .buffer)) (c .receive-bytes .result)
-      (rw e (rw (c .deref-mut .ensures .value) at (c .receive-bytes .ensures))))
+    (rw e (rw (c .deref-mut .ensures .value) at (c .receive-bytes .ensures))))
 
 pub returns-in-ReceiveExact : need.returns-in-ReceiveExact
 returns-in-ReceiveExact g c =
     let e = refilled-is (c .in-ReceiveExact .buffer) (c .receive-bytes-exact .last .buffer) (c .receive-bytes-exact .kept .buffer ∙ c .deref-mut-in-ReceiveExact .ensures .len) in
     rw (c .in-ReceiveExact .is) (did.receive-exact (c .in-ReceiveExact .buffer) (refilled (c .in-ReceiveExact .buffer) (c .receive-bytes-exact .last .buffer)) (c .in-ReceiveExact .budget) (c .receive-bytes-exact .result)
-      (rw e (rw (c .deref-mut-in-ReceiveExact .ensures .value) at (c .receive-bytes-exact .ensures))))
+    (rw e (rw (c .deref-mut-in-ReceiveExact .ensures .value) at (c .receive-bytes-exact .ensures))))
 
 pub returns-in-ReadyToReceive : need.returns-in-ReadyToReceive
 returns-in-ReadyToReceive g c = rw (c .in-ReadyToReceive .is) (did.ready-to-receive _ (c .ready-to-receive .ensures))

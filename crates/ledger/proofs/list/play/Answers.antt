@@ -11,7 +11,7 @@ returns-in-Ok g c =
     let p = c .play-all .ensures .played in
     rw (c .in-Ok .is) (played (c .init-answer .result .fruitless) (c .play-all .ensures .same)
     (whole (g .C·Backend .device) (g .C·Chip .meaning) (g .C·Chip·met .keeps) (c .args .config) (c .args .budget) (c .init-answer .result .fruitless) _ _ _ _ _ _ _ (p .0)
-      (rw (c .in-Ok .is) at (c .init-answer .ensures)) (p .1)))
+    (rw (c .in-Ok .is) at (c .init-answer .ensures)) (p .1)))
 
 pub returns-in-rest : need.returns-in-rest
 returns-in-rest g c =
