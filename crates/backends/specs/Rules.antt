@@ -20,9 +20,12 @@ one-more b n = cond b (n + 1) n
 
 -- a character becomes the first of the waiting: each of its marks is an event
 abbrev pub first : Character → Counts → Counts
-first c n = record
-  { lost = n .lost; parity = one-more (c .parity) (n .parity); framing = one-more (c .framing) (n .framing)
-  ; broken = one-more (c .broken) (n .broken) }
+first c n = record {
+  lost = n .lost;
+  parity = one-more (c .parity) (n .parity);
+  framing = one-more (c .framing) (n .framing);
+  broken = one-more (c .broken) (n .broken);
+}
 
 -- a character is lost
 abbrev pub overrun : Counts → Counts
@@ -36,13 +39,13 @@ joining (w ∷ ws) c n = n
 -- a character reaches the receiver; `came` is what counts as arrived from the line
 abbrev pub reach : Fifos → List Character → Character → Receiver → Receiver
 reach f came c r =
-  cond (ltb (length (r .waiting)) (capacity f))
+    cond (ltb (length (r .waiting)) (capacity f))
     (record { waiting = r .waiting ++ (c ∷ []); arrived = r .arrived ++ came; counts = joining (r .waiting) c (r .counts); seen = r .seen })
     (cond (is-on f)
-      -- the newcomer is dropped
-      (record { waiting = r .waiting; arrived = r .arrived ++ came; counts = overrun (r .counts); seen = r .seen })
-      -- it replaces the waiting one
-      (record { waiting = c ∷ []; arrived = r .arrived ++ came; counts = first c (overrun (r .counts)); seen = r .seen }))
+    -- the newcomer is dropped
+    (record { waiting = r .waiting; arrived = r .arrived ++ came; counts = overrun (r .counts); seen = r .seen })
+    -- it replaces the waiting one
+    (record { waiting = c ∷ []; arrived = r .arrived ++ came; counts = first c (overrun (r .counts)); seen = r .seen }))
 
 -- characters arrive from the line, in this order
 abbrev pub arrive : Fifos → List Character → Receiver → Receiver
@@ -65,19 +68,21 @@ pub record Line·moved (m n : Chip·state) : Type 0 where
   pub arrivals : List Character
   pub gone : ℕ
   pub enough : gone ≤ m .transmitter .held
-  pub after : n ≡ record
-    { receiver = arrive (m .setup .fifos) arrivals (m .receiver)
-    ; transmitter = record { given = m .transmitter .given; held = m .transmitter .held - gone; turning = m .transmitter .turning }
-    ; setup = m .setup }
+  pub after : n ≡ record {
+    receiver = arrive (m .setup .fifos) arrivals (m .receiver);
+    transmitter = record { given = m .transmitter .given; held = m .transmitter .held - gone; turning = m .transmitter .turning };
+    setup = m .setup;
+  }
 
 -- in loop mode the oldest looped bytes come round
 pub record Loop·moved (m n : Chip·state) : Type 0 where
   pub rounds : ℕ
   pub enough : rounds ≤ length (m .transmitter .turning)
-  pub after : n ≡ record
-    { receiver = come-round (m .setup .fifos) (take rounds (m .transmitter .turning)) (m .receiver)
-    ; transmitter = record { given = m .transmitter .given; held = m .transmitter .held; turning = drop rounds (m .transmitter .turning) }
-    ; setup = m .setup }
+  pub after : n ≡ record {
+    receiver = come-round (m .setup .fifos) (take rounds (m .transmitter .turning)) (m .receiver);
+    transmitter = record { given = m .transmitter .given; held = m .transmitter .held; turning = drop rounds (m .transmitter .turning) };
+    setup = m .setup;
+  }
 
 pub record Moved (m n : Chip·state) : Type 0 where
   pub line : looping m ≡ false → Line·moved m n
@@ -116,7 +121,7 @@ next-first (c ∷ cs) n = first c n
 abbrev pub Takes : List Character → Chip·state → ℕ → Chip·state → Type 0
 Takes [] m v n = n ≡ m
 Takes (c ∷ cs) m v n = (v ≡ c .byte) × (n ≡ with-receiver m (record
-  { waiting = cs; arrived = m .receiver .arrived; counts = next-first cs (m .receiver .counts); seen = m .receiver .seen }))
+    { waiting = cs; arrived = m .receiver .arrived; counts = next-first cs (m .receiver .counts); seen = m .receiver .seen }))
 
 -- both FIFO bits of the interrupt status are set, or both are clear; the others are free
 abbrev pub Shows·fifos : Bool → ℕ → Type 0
@@ -149,10 +154,10 @@ emptied r = record { waiting = []; arrived = r .arrived; counts = r .counts; see
 -- a byte is taken where there is room for it, for the line or, in loop mode, to come round; else it vanishes
 abbrev pub sent : Bool → ℕ → ℕ → Transmitter → Transmitter
 sent loops room v t =
-  cond (ltb (t .held + length (t .turning)) room)
+    cond (ltb (t .held + length (t .turning)) room)
     (cond loops
-      (record { given = t .given; held = t .held; turning = t .turning ++ (v ∷ []) })
-      (record { given = t .given ++ (v ∷ []); held = t .held + 1; turning = t .turning }))
+    (record { given = t .given; held = t .held; turning = t .turning ++ (v ∷ []) })
+    (record { given = t .given ++ (v ∷ []); held = t .held + 1; turning = t .turning }))
     t
 
 abbrev pub with-fifos : Setup → Fifos → Setup
@@ -164,10 +169,11 @@ switched f m = record { receiver = emptied (m .receiver); transmitter = struck (
 
 -- the FIFOs stay on: two bits empty one queue each
 abbrev pub reset : ℕ → Chip·state → Chip·state
-reset v m = record
-  { receiver = cond (contains v rx-fifo-reset) (emptied (m .receiver)) (m .receiver)
-  ; transmitter = cond (contains v tx-fifo-reset) (struck (m .transmitter)) (m .transmitter)
-  ; setup = m .setup }
+reset v m = record {
+  receiver = cond (contains v rx-fifo-reset) (emptied (m .receiver)) (m .receiver);
+  transmitter = cond (contains v tx-fifo-reset) (struck (m .transmitter)) (m .transmitter);
+  setup = m .setup;
+}
 
 -- a write of the FIFO control
 abbrev pub controlled : Fifos → ℕ → Chip·state → Chip·state
@@ -194,16 +200,17 @@ unlooped t = record { given = t .given; held = t .held; turning = [] }
 -- the write of v to a register
 pub record Writes (m : Chip·state) (k v : ℕ) (n : Chip·state) : Type 0 where
   pub given : k ≡ at-data → divisor-reached m ≡ false
-    → n ≡ with-transmitter m (sent (looping m) (capacity (m .setup .fifos)) v (m .transmitter))
+      → n ≡ with-transmitter m (sent (looping m) (capacity (m .setup .fifos)) v (m .transmitter))
   pub divisor-low : k ≡ at-dll → divisor-reached m ≡ true → n ≡ with-setup m (with-dll (m .setup) v)
   pub interrupts : k ≡ at-ier → divisor-reached m ≡ false → n ≡ m
   pub divisor-high : k ≡ at-dlm → divisor-reached m ≡ true → n ≡ with-setup m (with-dlm (m .setup) v)
   pub fifo-control : k ≡ at-fcr → n ≡ controlled (m .setup .fifos) v m
   pub line-control : k ≡ at-lcr → n ≡ with-setup m (with-lcr (m .setup) v)
-  pub modem-control : k ≡ at-mcr → n ≡ record
-    { receiver = m .receiver
-    ; transmitter = cond (looping m && not (contains v loop-back)) (unlooped (m .transmitter)) (m .transmitter)
-    ; setup = with-mcr (m .setup) v }
+  pub modem-control : k ≡ at-mcr → n ≡ record {
+    receiver = m .receiver;
+    transmitter = cond (looping m && not (contains v loop-back)) (unlooped (m .transmitter)) (m .transmitter);
+    setup = with-mcr (m .setup) v;
+  }
   pub line-status : k ≡ at-lsr → n ≡ m
   pub modem-status : k ≡ at-msr → n ≡ m
   pub scratch : k ≡ at-spr → n ≡ m

@@ -200,14 +200,14 @@ turned-sound m s h =
     let b = item-at 0 (s .transmitter .turning) 0 in
     cond-both (ltb 0 (s .transmitter .turning .len) && accepting s) _ s (λ t. Sound m t)
     (λ _. let r = reached-sound (unmarked b) m m (grows-none b m) (mode (s .settings .fifos)) (s .receiver) (h .0, h .1) in
-      (r .0, r .1, h .2, popped-ok (s .transmitter .turning) (h .3), reached-bounded (unmarked b) (mode (s .settings .fifos)) (s .receiver) (h .4)))
+    (r .0, r .1, h .2, popped-ok (s .transmitter .turning) (h .3), reached-bounded (unmarked b) (mode (s .settings .fifos)) (s .receiver) (h .4)))
     (λ _. h)
 
 pub answered-sound : (m : ℕ) (s : Core) (k : ℕ) → Sound m s → Sound m (answered s k)
 answered-sound m s k h =
     each-entry (λ t. Sound m t) k (data-answered s) s s s s (with-receiver s (noticed (s .receiver))) (with-modem s (unchanged (s .modem))) s
     (cond-both (reaches-divisor (s .settings)) s (with-receiver s (taken (s .receiver))) (λ t. Sound m t) (λ _. h) (λ _. let r = taken-sound m (s .receiver) (h .0, h .1) in
-      (r .0, r .1, h .2, h .3, taken-bounded (capacity (mode (s .settings .fifos))) (s .receiver) (h .4))))
+    (r .0, r .1, h .2, h .3, taken-bounded (capacity (mode (s .settings .fifos))) (s .receiver) (h .4))))
     h h h h h h h
 
 switched-sound : (m : ℕ) (f : Fifos) (s : Core) → Sound m s → Sound m (switched f s)

@@ -59,9 +59,10 @@ carried-sound w e h =
     let b = item-at 0 held 0 in
     let n = w .line .left in
     let r = reached-sound (unmarked b) n (n + 1) (grows-one (unmarked b) n) (mode (w .core .settings .fifos)) (w .core .receiver) (h .0 .0, h .0 .1) in
-    let q = and-parts (room (w .line)) (accepting (w .core)) (and-parts (ltb 0 (held .len)) (room (w .line) && accepting (w .core)) e .1) in
-    ((r .0, r .1, popped-ok held (h .0 .2), h .0 .3, reached-bounded (unmarked b) (mode (w .core .settings .fifos)) (w .core .receiver) (h .0 .4)),
-    written-line-sound (w .line) b (q .0))
+    let q = and-parts (room (w .line)) (accepting (w .core)) (and-parts (ltb 0 (held .len)) (room (w .line) && accepting (w .core)) e .1) in (
+      (r .0, r .1, popped-ok held (h .0 .2), h .0 .3, reached-bounded (unmarked b) (mode (w .core .settings .fifos)) (w .core .receiver) (h .0 .4)),
+      written-line-sound (w .line) b (q .0),
+    )
 
 pub wired-ticked-sound : (w : Wired) → Wired·sound w → Wired·sound (wired-ticked w)
 wired-ticked-sound w h =

@@ -48,12 +48,13 @@ pub no-attempts : {S : Type 0} (d : Device S) (s : S) (k : Kept) → Made d s s 
 no-attempts d s k = record { ran = refl; keeps = refl }
 
 pub made-append : {S : Type 0} (d : Device S) (s t u : S) (k l n : Kept) (xs ys : List Attempt) → Made d s t k l xs → Made d t u l n ys → Made d s u k n (xs ++ ys)
-made-append d s t u k l n xs ys p q = record
-  { ran = rw (attempts-append xs ys) (runs-append d (attempts xs) (attempts ys) s t u (p .ran) (q .ran))
-  ; keeps = q .keeps ∙ ap (λ m. noting m (line-statuses ys) (modem-statuses ys)) (p .keeps)
+made-append d s t u k l n xs ys p q = record {
+  ran = rw (attempts-append xs ys) (runs-append d (attempts xs) (attempts ys) s t u (p .ran) (q .ran));
+  keeps = q .keeps ∙ ap (λ m. noting m (line-statuses ys) (modem-statuses ys)) (p .keeps)
       ∙ noting-append k (line-statuses xs) (modem-statuses xs) (line-statuses ys) (modem-statuses ys)
       ∙ ap (λ v. noting k v (modem-statuses xs ++ modem-statuses ys)) (sym (line-append xs ys))
-      ∙ ap (λ v. noting k (line-statuses (xs ++ ys)) v) (sym (modem-append xs ys)) }
+      ∙ ap (λ v. noting k (line-statuses (xs ++ ys)) v) (sym (modem-append xs ys));
+}
 
 -- saved bits do not change what an attempt may do
 one-noting : (k : Kept) (ls ms buffer : List ℕ) (a : Attempt) → Attempted (noting k ls ms) buffer a → Attempted k buffer a
@@ -66,11 +67,14 @@ attempts-noting k ls ms buffer (a ∷ xs) h = (h .0, one-noting k ls ms buffer a
 
 -- attempts on a buffer, and then others on what is left of it
 pub attempts-more : (k l : Kept) (ls ms : List ℕ) (buffer : List ℕ) (xs ys : List Attempt) → l ≡ noting k ls ms → Attempts k buffer xs
-  → Attempts l (drop (length (taken xs)) buffer) ys → Attempts k buffer (xs ++ ys)
+    → Attempts l (drop (length (taken xs)) buffer) ys → Attempts k buffer (xs ++ ys)
 attempts-more k l ls ms buffer [] ys e p q = attempts-noting k ls ms buffer ys (subst (λ n. Attempts n buffer ys) e q)
-attempts-more k l ls ms buffer (a ∷ xs) ys e p q =
-    (p .0, p .1, attempts-more k l ls ms (drop (length (a .bytes)) buffer) xs ys e (p .2)
-      (subst (λ b. Attempts l b ys) (ap (λ n. drop n buffer) (length-append (a .bytes) (taken xs)) ∙ sym (drop-drop (length (taken xs)) (length (a .bytes)) buffer)) q))
+attempts-more k l ls ms buffer (a ∷ xs) ys e p q = (
+  p .0,
+  p .1,
+  attempts-more k l ls ms (drop (length (a .bytes)) buffer) xs ys e (p .2)
+      (subst (λ b. Attempts l b ys) (ap (λ n. drop n buffer) (length-append (a .bytes) (taken xs)) ∙ sym (drop-drop (length (taken xs)) (length (a .bytes)) buffer)) q),
+)
 
 front : (n : ℕ) (xs : List ℕ) → take n xs ++ drop (length (take n xs)) xs ≡ xs
 front zero xs = refl
@@ -100,7 +104,7 @@ nothing [] e = refl
 nothing (b ∷ bs) e = absurd (omega arith)
 
 pub one-refused : (xs : List Attempt) → length xs ≡ 1 → length (taken xs) ≡ 0
-  → (a : Attempt) × (a .bytes ≡ []) × (xs ≡ record { question = a .question; bytes = [] } ∷ [])
+    → (a : Attempt) × (a .bytes ≡ []) × (xs ≡ record { question = a .question; bytes = [] } ∷ [])
 one-refused [] e z = absurd (omega arith)
 one-refused (a ∷ []) e z = (a, nothing (a .bytes) z, ap (λ b. record { question = a .question; bytes = b } ∷ []) (nothing (a .bytes) z))
 one-refused (a ∷ (b ∷ xs)) e z = absurd (omega arith)

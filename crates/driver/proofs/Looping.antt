@@ -68,35 +68,40 @@ module _ {S : Type 0} (d : Device S) where
   moved-none s k = record { ran = refl; keeps = refl }
 
   pub moved-append : (s t u : S) (k l m : Kept) (ps qs : List Part) → Moved d s t k l ps → Moved d t u l m qs → Moved d s u k m (ps ++ qs)
-  moved-append s t u k l m ps qs p q = record
-    { ran = subst (λ xs. Runs d xs s u) (sym (accesses-append ps qs)) (runs-append d (accesses ps) (accesses qs) s t u (p .ran) (q .ran))
-    ; keeps = q .keeps ∙ ap (λ j. noting j (lines-of qs) (modems-of qs)) (p .keeps) ∙ noting-append k (lines-of ps) (modems-of ps) (lines-of qs) (modems-of qs)
+  moved-append s t u k l m ps qs p q = record {
+    ran = subst (λ xs. Runs d xs s u) (sym (accesses-append ps qs)) (runs-append d (accesses ps) (accesses qs) s t u (p .ran) (q .ran));
+    keeps = q .keeps ∙ ap (λ j. noting j (lines-of qs) (modems-of qs)) (p .keeps) ∙ noting-append k (lines-of ps) (modems-of ps) (lines-of qs) (modems-of qs)
         ∙ ap (λ v. noting k v (modems-of ps ++ modems-of qs)) (sym (lines-append ps qs))
-        ∙ ap (λ v. noting k (lines-of (ps ++ qs)) v) (sym (modems-append ps qs)) }
+        ∙ ap (λ v. noting k (lines-of (ps ++ qs)) v) (sym (modems-append ps qs));
+  }
 
   module _ (s t : S) (k l : Kept) where
     -- one part
     pub one-heard : (ts : List Try) → Tried d s t k l ts → Moved d s t k l (heard ts ∷ [])
-    one-heard ts m = record
-      { ran = subst (λ xs. Runs d xs s t) (sym (append-nil (tries ts))) (m .ran)
-      ; keeps = m .keeps ∙ ap (λ v. noting k v []) (sym (append-nil (statuses ts))) }
+    one-heard ts m = record {
+      ran = subst (λ xs. Runs d xs s t) (sym (append-nil (tries ts))) (m .ran);
+      keeps = m .keeps ∙ ap (λ v. noting k v []) (sym (append-nil (statuses ts)));
+    }
 
     pub one-drained : (ts : List Try) → Tried d s t k l ts → Moved d s t k l (drained ts ∷ [])
-    one-drained ts m = record
-      { ran = subst (λ xs. Runs d xs s t) (sym (append-nil (tries ts))) (m .ran)
-      ; keeps = m .keeps ∙ ap (λ v. noting k v []) (sym (append-nil (statuses ts))) }
+    one-drained ts m = record {
+      ran = subst (λ xs. Runs d xs s t) (sym (append-nil (tries ts))) (m .ran);
+      keeps = m .keeps ∙ ap (λ v. noting k v []) (sym (append-nil (statuses ts)));
+    }
 
     pub one-sent : (xs : List Attempt) → Made d s t k l xs → Moved d s t k l (sent xs ∷ [])
-    one-sent xs m = record
-      { ran = subst (λ ys. Runs d ys s t) (sym (append-nil (attempts xs))) (m .ran)
-      ; keeps = m .keeps ∙ ap (λ v. noting k v (modem-statuses xs)) (sym (append-nil (line-statuses xs)))
-          ∙ ap (λ v. noting k (line-statuses xs ++ []) v) (sym (append-nil (modem-statuses xs))) }
+    one-sent xs m = record {
+      ran = subst (λ ys. Runs d ys s t) (sym (append-nil (attempts xs))) (m .ran);
+      keeps = m .keeps ∙ ap (λ v. noting k v (modem-statuses xs)) (sym (append-nil (line-statuses xs)))
+          ∙ ap (λ v. noting k (line-statuses xs ++ []) v) (sym (append-nil (modem-statuses xs)));
+    }
 
     pub one-offered : (a : Attempt) → Made d s t k l (a ∷ []) → Moved d s t k l (offered a ∷ [])
-    one-offered a m = record
-      { ran = subst (λ xs. Runs d xs s t) (sym (append-nil (attempts (a ∷ [])))) (m .ran)
-      ; keeps = m .keeps ∙ ap (λ v. noting k v (modem-statuses (a ∷ []))) (sym (append-nil (line-statuses (a ∷ []))))
-          ∙ ap (λ v. noting k (line-statuses (a ∷ []) ++ []) v) (sym (append-nil (modem-statuses (a ∷ [])))) }
+    one-offered a m = record {
+      ran = subst (λ xs. Runs d xs s t) (sym (append-nil (attempts (a ∷ [])))) (m .ran);
+      keeps = m .keeps ∙ ap (λ v. noting k v (modem-statuses (a ∷ []))) (sym (append-nil (line-statuses (a ∷ []))))
+          ∙ ap (λ v. noting k (line-statuses (a ∷ []) ++ []) v) (sym (append-nil (modem-statuses (a ∷ []))));
+    }
 
     pub done : (ps : List Part) (P : List Part → Type 0) (a b : ℕ) → Moved d s t k l ps → P ps → b ≡ a + wasted ps → Done d s t k l P a b
     done ps P a b m h e = record { parts = ps; holds = h; ran = m .ran; keeps = m .keeps; counted = e }
@@ -106,15 +111,15 @@ module _ {S : Type 0} (d : Device S) where
 
   -- one step, and then another with what is left of the budget
   pub done-then : (s t u : S) (k l m : Kept) (P : List Part → Type 0) (Q : Kept → ℕ → List Part → Type 0) (R : List Part → Type 0) (n n′ a b c : ℕ)
-    → Done d s t k l P a b → Done d t u l m (Q (settings l) (n′ - b)) b c → n′ ≡ n
-    → ((ps qs : List Part) → P ps → Q (settings k) (n - a - wasted ps) qs → R (ps ++ qs)) → Done d s u k m R a c
+      → Done d s t k l P a b → Done d t u l m (Q (settings l) (n′ - b)) b c → n′ ≡ n
+      → ((ps qs : List Part) → P ps → Q (settings k) (n - a - wasted ps) qs → R (ps ++ qs)) → Done d s u k m R a c
   done-then s t u k l m P Q R n n′ a b c p q e f =
       let i : n′ - b ≡ n - a - wasted (p .parts) = omega (arith, p .counted) in
       let w = wasted-append (p .parts) (q .parts) in
       done s u k m (p .parts ++ q .parts) R a c
       (moved-append s t u k l m (p .parts) (q .parts) (moved s t k l P a b p) (moved t u l m (Q (settings l) (n′ - b)) b c q))
       (f (p .parts) (q .parts) (p .holds)
-        (subst (λ h. Q (settings k) h (q .parts)) i (subst (λ j. Q j (n′ - b) (q .parts)) (ap settings (p .keeps)) (q .holds))))
+      (subst (λ h. Q (settings k) h (q .parts)) i (subst (λ j. Q j (n′ - b) (q .parts)) (ap settings (p .keeps)) (q .holds))))
       (omega (arith, p .counted, q .counted))
 
   -- a step whose parts have another property too
@@ -161,35 +166,37 @@ pub not-none : {X : Type 0} (x : Refusal) → Some x ≡ None → X
 not-none x e = let z : _≡_ {A = ℕ} 0 1 = cc in absurd (omega arith)
 
 whole : (x : Option Refusal) (room n : ℕ) (w : Wait) (ts : List Try) (before after : List ℕ) → Fills·exactly room n w x ts → room ≡ length before → after ≡ filled (got ts) before
-  → x ≡ None → after ≡ got ts ++ []
+    → x ≡ None → after ≡ got ts ++ []
 whole None room n w ts before after h e f z = f ∙ filled-whole (got ts) before (fills-length room n w ts h ∙ e) ∙ sym (append-nil (got ts))
 whole (Some x) room n w ts before after h e f z = not-none x z
 
 module _ {S : Type 0} (d : Device S) (s t : S) (k l : Kept) (bytes : List ℕ) (n a b i : ℕ) where
   pub echo-cut : (x : Refusal) (after : List ℕ) → Sent·exactly d s t k l bytes (n - a) TestMessageSent (Some x) (b - a) i → a ≤ b
-    → Done d s t k l (λ ps. Echoed (settings k) (n - a) bytes (Some x) ps × (Some x ≡ None → after ≡ back ps)) a b
+      → Done d s t k l (λ ps. Echoed (settings k) (n - a) bytes (Some x) ps × (Some x ≡ None → after ≡ back ps)) a b
   echo-cut x after q h = done d s t k l (sent (q .tried) ∷ []) _ a b (one-sent d s t k l (q .tried) (q .made))
       (not-sent x (q .tried) (attempts-settings k bytes (q .tried) (q .sound)) (sends-settings k bytes _ _ _ (q .tried) (q .sends)), λ e. not-none x e)
       (omega (arith, q .counted))
 
   pub echo-whole : (u : S) (m : Kept) (n′ c j : ℕ) (x : Option Refusal) (before after : List ℕ) → Sent·exactly d s t k l bytes (n - a) TestMessageSent None (b - a) i → a ≤ b
-    → Received·exactly d t u l m (n′ - b) TestMessageReceived before after x (c - b) j → b ≤ c → n′ ≡ n → length before ≡ length bytes
-    → Done d s u k m (λ ps. Echoed (settings k) (n - a) bytes x ps × (x ≡ None → after ≡ back ps)) a c
+      → Received·exactly d t u l m (n′ - b) TestMessageReceived before after x (c - b) j → b ≤ c → n′ ≡ n → length before ≡ length bytes
+      → Done d s u k m (λ ps. Echoed (settings k) (n - a) bytes x ps × (x ≡ None → after ≡ back ps)) a c
   echo-whole u m n′ c j x before after q h r g e f =
       let z : n′ - b ≡ n - a - refusals (q .tried) = omega (arith, q .counted) in
       done d s u k m (sent (q .tried) ∷ heard (r .ts) ∷ []) _ a c
-      (moved-append d s t u k l m (sent (q .tried) ∷ []) (heard (r .ts) ∷ []) (one-sent d s t k l (q .tried) (q .made)) (one-heard d t u l m (r .ts) (r .made)))
-      (all-sent x (q .tried) (r .ts) (attempts-settings k bytes (q .tried) (q .sound)) (sends-settings k bytes _ _ _ (q .tried) (q .sends)) (r .made .sound)
-        (subst (λ y. Fills·exactly y (n - a - refusals (q .tried)) TestMessageReceived x (r .ts)) f (subst (λ y. Fills·exactly (length before) y TestMessageReceived x (r .ts)) z (r .fills))),
-       whole x (length before) (n′ - b) _ (r .ts) before after (r .fills) refl (r .buffer))
+      (moved-append d s t u k l m (sent (q .tried) ∷ []) (heard (r .ts) ∷ []) (one-sent d s t k l (q .tried) (q .made)) (one-heard d t u l m (r .ts) (r .made))) (
+        all-sent x (q .tried) (r .ts) (attempts-settings k bytes (q .tried) (q .sound)) (sends-settings k bytes _ _ _ (q .tried) (q .sends)) (r .made .sound)
+            (subst (λ y. Fills·exactly y (n - a - refusals (q .tried)) TestMessageReceived x (r .ts)) f (subst (λ y. Fills·exactly (length before) y TestMessageReceived x (r .ts)) z (r .fills))),
+        whole x (length before) (n′ - b) _ (r .ts) before after (r .fills) refl (r .buffer),
+      )
       (omega (arith, q .counted, r .counted))
 
 -- The drain
 
 pub drain-more : (ts : List Try) (v b : ℕ) → misses ts ≡ 0 → (misses (ts ++ (took v b ∷ [])) ≡ 0) × (length (got (ts ++ (took v b ∷ []))) ≡ length (got ts) + 1)
-drain-more ts v b e =
-    (misses-append ts (took v b ∷ []) ∙ omega arith,
-     ap length (got-append ts (took v b ∷ [])) ∙ length-append (got ts) (b ∷ []) ∙ omega arith)
+drain-more ts v b e = (
+  misses-append ts (took v b ∷ []) ∙ omega arith,
+  ap length (got-append ts (took v b ∷ [])) ∙ length-append (got ts) (b ∷ []) ∙ omega arith,
+)
 
 pub got-miss : (ts : List Try) (v : ℕ) → length (got (ts ++ (missed v ∷ []))) ≡ length (got ts)
 got-miss ts v = ap length (got-append ts (missed v ∷ []) ∙ append-nil (got ts))
@@ -219,14 +226,14 @@ waited-within m n a b w ts bs (came us v z p q) e f g = let h = misses-append us
 
 module _ {S : Type 0} (d : Device S) (s t : S) (k l : Kept) (n a : ℕ) where
   pub byte-refused : (x : Refusal) → Some x ≡ Some (refusal 11 []) → Sent d s t k l (test-byte ∷ []) 0
-    → Done d s t k l (Byte·tested (settings k) n (Some (refusal 15 (amount (x .number) ∷ [])))) a a
+      → Done d s t k l (Byte·tested (settings k) n (Some (refusal 15 (amount (x .number) ∷ [])))) a a
   byte-refused x e q =
       let z : x ≡ refusal 11 [] = cc in
       let o = alone (q .tried) (omega (arith, q .one)) in
       rw z (done d s t k l (offered (o .0) ∷ []) _ a a (one-offered d s t k l (o .0) (subst (λ y. Made d s t k l y) (o .1) (q .made)))
-        (not-taken (o .0) (one-settings k _ (o .0) (subst (λ y. Attempts k (test-byte ∷ []) y) (o .1) (q .sound) .1))
-          (none-taken (o .0 .bytes) (subst (λ y. 0 ≡ length (taken y)) (o .1) (q .answer))))
-        (omega arith))
+      (not-taken (o .0) (one-settings k _ (o .0) (subst (λ y. Attempts k (test-byte ∷ []) y) (o .1) (q .sound) .1))
+      (none-taken (o .0 .bytes) (subst (λ y. 0 ≡ length (taken y)) (o .1) (q .answer))))
+      (omega arith))
 
   module _ (q : Sent d s t k l (test-byte ∷ []) 1) (u : S) (m : Kept) (b : ℕ) (ts : List Try) (r : Tried d t u l m ts) (e : b ≡ a + misses ts) where
     one : (a : Attempt) × (q .tried ≡ a ∷ [])

@@ -58,11 +58,12 @@ no-tries d s k = record { sound = tt; ran = refl; keeps = refl }
 
 -- tries, and then others
 pub made-append : {S : Type 0} (d : Device S) (s t u : S) (k l n : Kept) (ts us : List Try) → Made d s t k l ts → Made d t u l n us → Made d s u k n (ts ++ us)
-made-append d s t u k l n ts us p q = record
-  { sound = sound-append ts us (p .sound) (q .sound)
-  ; ran = rw (tries-append ts us) (runs-append d (tries ts) (tries us) s t u (p .ran) (q .ran))
-  ; keeps = q .keeps ∙ ap (λ m. noting m (statuses us) []) (p .keeps) ∙ noting-append k (statuses ts) [] (statuses us) []
-      ∙ ap (λ vs. noting k vs []) (sym (statuses-append ts us)) }
+made-append d s t u k l n ts us p q = record {
+  sound = sound-append ts us (p .sound) (q .sound);
+  ran = rw (tries-append ts us) (runs-append d (tries ts) (tries us) s t u (p .ran) (q .ran));
+  keeps = q .keeps ∙ ap (λ m. noting m (statuses us) []) (p .keeps) ∙ noting-append k (statuses ts) [] (statuses us) []
+      ∙ ap (λ vs. noting k vs []) (sym (statuses-append ts us));
+}
 
 -- one byte more in the buffer
 pub filled-more : (bs buffer : List ℕ) (b : ℕ) → length bs < length buffer → set (filled bs buffer) (length bs) b ≡ filled (bs ++ (b ∷ [])) buffer

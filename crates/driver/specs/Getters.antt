@@ -52,10 +52,17 @@ pub record Divisor·looked {S : Type 0} (d : Device S) (s t : S) (k l : Kept) (l
   pub keeps : l ≡ k
 
 abbrev pub with-interrupts : Config → ℕ → Config
-with-interrupts c n = record
-  { interrupts = n; frequency = c .frequency; «prescaler_division_factor» = c .«prescaler_division_factor»; «fifo_trigger_level» = c .«fifo_trigger_level»
-  ; «baud_rate» = c .«baud_rate»; «data_bits» = c .«data_bits»; «extra_stop_bits» = c .«extra_stop_bits»; parity = c .parity
-  ; «check_cts_before_sending» = c .«check_cts_before_sending» }
+with-interrupts c n = record {
+  interrupts = n;
+  frequency = c .frequency;
+  «prescaler_division_factor» = c .«prescaler_division_factor»;
+  «fifo_trigger_level» = c .«fifo_trigger_level»;
+  «baud_rate» = c .«baud_rate»;
+  «data_bits» = c .«data_bits»;
+  «extra_stop_bits» = c .«extra_stop_bits»;
+  parity = c .parity;
+  «check_cts_before_sending» = c .«check_cts_before_sending»;
+}
 
 -- the enabled interrupts are read and changed; the configuration keeps what was written, whatever the device makes of it
 pub record Switched {S : Type 0} (d : Device S) (s t : S) (k l : Kept) (change : ℕ → ℕ) : Type 0 where
@@ -69,8 +76,8 @@ pub record Dumped {S : Type 0} (d : Device S) (s t : S) (k l : Kept) (r : Config
   pub line : ℕ
   pub modem : ℕ
   pub ran : Runs d
-    (rd at-lcr found ∷ wr at-lcr (bitOr found divisor-access) ∷ rd at-dll (r .dll) ∷ rd at-dlm (r .dlm) ∷ wr at-lcr found
-    ∷ rd at-ier (r .ier) ∷ rd at-isr (r .isr) ∷ rd at-lcr (r .lcr) ∷ rd at-mcr (r .mcr) ∷ rd at-lsr line ∷ rd at-msr modem ∷ rd at-spr (r .spr) ∷ []) s t
+      (rd at-lcr found ∷ wr at-lcr (bitOr found divisor-access) ∷ rd at-dll (r .dll) ∷ rd at-dlm (r .dlm) ∷ wr at-lcr found
+      ∷ rd at-ier (r .ier) ∷ rd at-isr (r .isr) ∷ rd at-lcr (r .lcr) ∷ rd at-mcr (r .mcr) ∷ rd at-lsr line ∷ rd at-msr modem ∷ rd at-spr (r .spr) ∷ []) s t
   pub keeps : l ≡ noting k (line ∷ []) (modem ∷ [])
   pub line-field : r .lsr ≡ bitOr line (joined line-errors (k .lsr) (line ∷ []))
   pub modem-field : r .msr ≡ bitOr modem (joined line-changes (k .msr) (modem ∷ []))

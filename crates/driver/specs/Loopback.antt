@@ -99,31 +99,31 @@ pub data Drains (n : ℕ) : Option Refusal → List Part → Type 0 where
 -- the test byte is offered once, and the character that then comes is compared
 pub data Byte·tested (k : Kept) (n : ℕ) : Option Refusal → List Part → Type 0 where
   not-taken : (a : Attempt) → Attempted k (test-byte ∷ []) a → a .bytes ≡ []
-    → Byte·tested k n (Some (refusal 15 (amount 11 ∷ []))) (offered a ∷ [])
+      → Byte·tested k n (Some (refusal 15 (amount 11 ∷ []))) (offered a ∷ [])
   never-back : (a : Attempt) → Attempted k (test-byte ∷ []) a → a .bytes ≡ test-byte ∷ []
-    → (x : Refusal) (ts : List Try) → Sound ts → Waits·for n TestByte (Some x) ts []
-    → Byte·tested k n (Some x) (offered a ∷ heard ts ∷ [])
+      → (x : Refusal) (ts : List Try) → Sound ts → Waits·for n TestByte (Some x) ts []
+      → Byte·tested k n (Some x) (offered a ∷ heard ts ∷ [])
   another : (a : Attempt) → Attempted k (test-byte ∷ []) a → a .bytes ≡ test-byte ∷ []
-    → (ts : List Try) (b : ℕ) → Sound ts → Waits·for n TestByte None ts (b ∷ [])
-    → (bitAnd b (data-mask (k .config .«data_bits»)) ≡ bitAnd test-byte (data-mask (k .config .«data_bits»)) → ⊥)
-    → Byte·tested k n (Some (refusal 16 (amount b ∷ []))) (offered a ∷ heard ts ∷ [])
+      → (ts : List Try) (b : ℕ) → Sound ts → Waits·for n TestByte None ts (b ∷ [])
+      → (bitAnd b (data-mask (k .config .«data_bits»)) ≡ bitAnd test-byte (data-mask (k .config .«data_bits»)) → ⊥)
+      → Byte·tested k n (Some (refusal 16 (amount b ∷ []))) (offered a ∷ heard ts ∷ [])
   the-same : (a : Attempt) → Attempted k (test-byte ∷ []) a → a .bytes ≡ test-byte ∷ []
-    → (ts : List Try) (b : ℕ) → Sound ts → Waits·for n TestByte None ts (b ∷ [])
-    → bitAnd b (data-mask (k .config .«data_bits»)) ≡ bitAnd test-byte (data-mask (k .config .«data_bits»))
-    → Byte·tested k n None (offered a ∷ heard ts ∷ [])
+      → (ts : List Try) (b : ℕ) → Sound ts → Waits·for n TestByte None ts (b ∷ [])
+      → bitAnd b (data-mask (k .config .«data_bits»)) ≡ bitAnd test-byte (data-mask (k .config .«data_bits»))
+      → Byte·tested k n None (offered a ∷ heard ts ∷ [])
 
 -- bytes are sent, and then as many are read
 pub data Echoed (k : Kept) (n : ℕ) (bytes : List ℕ) : Option Refusal → List Part → Type 0 where
   not-sent : (x : Refusal) (tried : List Attempt) → Attempts k bytes tried → Sends·exactly k bytes n TestMessageSent (Some x) tried
-    → Echoed k n bytes (Some x) (sent tried ∷ [])
+      → Echoed k n bytes (Some x) (sent tried ∷ [])
   all-sent : (x : Option Refusal) (tried : List Attempt) (ts : List Try) → Attempts k bytes tried → Sends·exactly k bytes n TestMessageSent None tried
-    → Sound ts → Fills·exactly (length bytes) (n - refusals tried) TestMessageReceived x ts → Echoed k n bytes x (sent tried ∷ heard ts ∷ [])
+      → Sound ts → Fills·exactly (length bytes) (n - refusals tried) TestMessageReceived x ts → Echoed k n bytes x (sent tried ∷ heard ts ∷ [])
 
 -- the first i bytes of the message, one after the other, each sent and read back before the next; the last may have been cut
 pub data Singly (k : Kept) (n : ℕ) : ℕ → Option Refusal → List Part → Type 0 where
   start : Singly k n 0 None []
   next : (i : ℕ) (x : Option Refusal) (ps qs : List Part) → Singly k n i None ps → i < length test-message
-    → Echoed k (n - wasted ps) (getD test-message i 0 ∷ []) x qs → Singly k n (i + 1) x (ps ++ qs)
+      → Echoed k (n - wasted ps) (getD test-message i 0 ∷ []) x qs → Singly k n (i + 1) x (ps ++ qs)
 
 -- the message: with FIFOs at once, without them byte by byte
 pub data Message·echoed (k : Kept) (n : ℕ) : Option Refusal → List Part → Type 0 where
@@ -135,19 +135,19 @@ pub data Message·echoed (k : Kept) (n : ℕ) : Option Refusal → List Part →
 pub data Message·tested (k : Kept) (n : ℕ) (place : List ℕ) : Option Refusal → List ℕ → List Part → Type 0 where
   cut-off : (x : Refusal) (ps : List Part) → Message·echoed k n (Some x) ps → Message·tested k n place (Some x) place ps
   message-back : (ps : List Part) → Message·echoed k n None ps
-    → masked (data-mask (k .config .«data_bits»)) (back ps) ≡ masked (data-mask (k .config .«data_bits»)) test-message
-    → Message·tested k n place None place ps
+      → masked (data-mask (k .config .«data_bits»)) (back ps) ≡ masked (data-mask (k .config .«data_bits»)) test-message
+      → Message·tested k n place None place ps
   other-message : (ps : List Part) → Message·echoed k n None ps
-    → (masked (data-mask (k .config .«data_bits»)) (back ps) ≡ masked (data-mask (k .config .«data_bits»)) test-message → ⊥)
-    → Message·tested k n place (Some (refusal 17 [])) (back ps) ps
+      → (masked (data-mask (k .config .«data_bits»)) (back ps) ≡ masked (data-mask (k .config .«data_bits»)) test-message → ⊥)
+      → Message·tested k n place (Some (refusal 17 [])) (back ps) ps
 
 -- the three steps, up to the first that is refused
 pub data Looped (k : Kept) (n : ℕ) (place : List ℕ) : Option Refusal → List ℕ → List Part → Type 0 where
   in-drain : (x : Refusal) (ps : List Part) → Drains n (Some x) ps → Looped k n place (Some x) place ps
   in-byte : (x : Refusal) (ps qs : List Part) → Drains n None ps → Byte·tested k (n - wasted ps) (Some x) qs
-    → Looped k n place (Some x) place (ps ++ qs)
+      → Looped k n place (Some x) place (ps ++ qs)
   in-message : (x : Option Refusal) (after : List ℕ) (ps qs rs : List Part) → Drains n None ps → Byte·tested k (n - wasted ps) None qs
-    → Message·tested k (n - wasted (ps ++ qs)) place x after rs → Looped k n place x after ((ps ++ qs) ++ rs)
+      → Message·tested k (n - wasted (ps ++ qs)) place x after rs → Looped k n place x after ((ps ++ qs) ++ rs)
 
 -- loop mode is left without interrupts being let through, the modem status is read, and what stood in MCR and IER is written back
 abbrev pub restores : ℕ → ℕ → ℕ → List Access
@@ -158,15 +158,15 @@ restores mcr ier modem = wr at-mcr (bitAnd mcr (255 - 0x08)) ∷ rd at-msr modem
 pub data Loop·tested (n : ℕ) (k : Kept) (place : List ℕ) : Option Refusal → ℕ → List ℕ → Kept → List Access → Type 0 where
   -- n + 1 polls did not show the transmitter empty: nothing was written
   stayed-busy : (mcr ier : ℕ) (vs : List ℕ) → None·shows transmitter-empty vs → length vs ≡ n + 1
-    → Loop·tested n k place (Some (refusal 9 (during Transmitter ∷ []))) (length vs) place (noting k vs [])
+      → Loop·tested n k place (Some (refusal 9 (during Transmitter ∷ []))) (length vs) place (noting k vs [])
       (rd at-mcr mcr ∷ rd at-ier ier ∷ polls vs)
   -- else loop mode is entered and left: of the line errors those before it stay saved, and of the modem lines' changes
   -- at its end those that the lines themselves show are saved
   looped : (mcr ier : ℕ) (vs : List ℕ) (v : ℕ) → None·shows transmitter-empty vs → contains v transmitter-empty ≡ true → length vs ≤ n
-    → (modem : ℕ) (on : Bool) (xs : List Access) → Fifo·set-up (k .config .«fifo_trigger_level») on xs
-    → (x : Option Refusal) (after : List ℕ) (ps : List Part) → Looped (settings (with-fifo k on)) (n - length vs) place x after ps
-    → (modem′ changes : ℕ) → Line·changes modem modem′ changes
-    → Loop·tested n k place x (length vs + wasted ps) after
+      → (modem : ℕ) (on : Bool) (xs : List Access) → Fifo·set-up (k .config .«fifo_trigger_level») on xs
+      → (x : Option Refusal) (after : List ℕ) (ps : List Part) → Looped (settings (with-fifo k on)) (n - length vs) place x after ps
+      → (modem′ changes : ℕ) → Line·changes modem modem′ changes
+      → Loop·tested n k place x (length vs + wasted ps) after
       (with-saved (with-fifo k on) (joined line-errors (k .lsr) (vs ++ (v ∷ []))) (bitOr (joined line-changes (k .msr) (modem ∷ modems-of ps)) changes))
       (rd at-mcr mcr ∷ rd at-ier ier ∷ (polls vs ++ (rd at-lsr v ∷ [])) ++ (rd at-msr modem ∷ wr at-ier 0 ∷ wr at-mcr loop-back ∷ [])
       ++ (xs ++ accesses ps) ++ restores mcr ier modem′)

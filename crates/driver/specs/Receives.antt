@@ -64,7 +64,7 @@ pub data Fills·exactly (room n : ℕ) (w : Wait) : Option Refusal → List Try 
   no-room : room ≡ 0 → Fills·exactly room n w None []
   all : (ts : List Try) (v b : ℕ) → misses ts ≤ n → length (got ts) + 1 ≡ room → Fills·exactly room n w None (ts ++ (took v b ∷ []))
   cut : (ts : List Try) (v : ℕ) → misses ts ≡ n → length (got ts) < room
-    → Fills·exactly room n w (Some (refusal 9 (during w ∷ []))) (ts ++ (missed v ∷ []))
+      → Fills·exactly room n w (Some (refusal 9 (during w ∷ []))) (ts ++ (missed v ∷ []))
 
 -- The calls: from the state s and what was kept, k, to the state t and what is kept then, l
 

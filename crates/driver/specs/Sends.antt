@@ -45,9 +45,9 @@ pub data Answers (checked : Bool) : Question → Option Refusal → Type 0 where
   unchecked : (v : ℕ) → checked ≡ false → contains v thr-empty ≡ true → Answers checked (status v) None
   looped : (v m : ℕ) → checked ≡ true → contains v thr-empty ≡ true → contains m loop-back ≡ true → Answers checked (control v m) None
   clear : (v m s : ℕ) → checked ≡ true → contains v thr-empty ≡ true → contains m loop-back ≡ false → contains s clear-to-send ≡ true
-    → Answers checked (lines v m s) None
+      → Answers checked (lines v m s) None
   not-clear : (v m s : ℕ) → checked ≡ true → contains v thr-empty ≡ true → contains m loop-back ≡ false → contains s clear-to-send ≡ false
-    → Answers checked (lines v m s) (Some (refusal 12 []))
+      → Answers checked (lines v m s) (Some (refusal 12 []))
 
 -- one attempt to send: its question, and the bytes that were then written
 pub record Attempt : Type 0 where
@@ -90,9 +90,9 @@ burst k = cond (k .fifo) 16 1
 -- an attempt on a buffer that holds something: its first bytes, or none where the answer was no
 pub data Attempted (k : Kept) (buffer : List ℕ) : Attempt → Type 0 where
   wrote : (q : Question) → Answers (k .config .«check_cts_before_sending») q None
-    → Attempted k buffer (record { question = q; bytes = take (burst k) buffer })
+      → Attempted k buffer (record { question = q; bytes = take (burst k) buffer })
   refused : (q : Question) (x : Refusal) → Answers (k .config .«check_cts_before_sending») q (Some x)
-    → Attempted k buffer (record { question = q; bytes = [] })
+      → Attempted k buffer (record { question = q; bytes = [] })
 
 -- attempts one after the other, each on what is left of the buffer; none where nothing is left
 abbrev pub Attempts : Kept → List ℕ → List Attempt → Type 0
@@ -125,7 +125,7 @@ pub record Sent {S : Type 0} (d : Device S) (s t : S) (k l : Kept) (buffer : Lis
 pub data Sends·exactly (k : Kept) (buffer : List ℕ) (n : ℕ) (w : Wait) : Option Refusal → List Attempt → Type 0 where
   all : (tried : List Attempt) → refusals tried ≤ n → length (taken tried) ≡ length buffer → Sends·exactly k buffer n w None tried
   cut : (tried : List Attempt) (q : Question) → refusals tried ≡ n
-    → Sends·exactly k buffer n w (Some (refusal 9 (during w ∷ []))) (tried ++ (record { question = q; bytes = [] } ∷ []))
+      → Sends·exactly k buffer n w (Some (refusal 9 (during w ∷ []))) (tried ++ (record { question = q; bytes = [] } ∷ []))
 
 -- the answer carries the fruitless attempts and the bytes that were taken
 pub record Sent·exactly {S : Type 0} (d : Device S) (s t : S) (k l : Kept) (buffer : List ℕ) (n : ℕ) (w : Wait)

@@ -129,6 +129,16 @@ impl<B: Backend> Uart16550<B> {
         let lsr = self.read_lsr() | self.lsr_saved;
         let msr = self.read_msr() | self.msr_saved;
         let spr = self.spr();
-        ConfigRegisterDump { ier, isr, lcr, mcr, lsr, msr, spr, dll, dlm }
+        ConfigRegisterDump {
+            ier,
+            isr,
+            lcr,
+            mcr,
+            lsr,
+            msr,
+            spr,
+            dll,
+            dlm,
+        }
     }
 }

@@ -66,7 +66,11 @@ impl<B: Backend> Uart16550<B> {
     /// Refuses with 15 where the test byte is not taken, with 16 where another byte comes back, with
     /// 17 where another message does, which `place` then holds, and with 9 where more than `budget`
     /// polls are fruitless.
-    pub fn test_loopback(&mut self, place: &mut [u8; 16], budget: u16) -> Waited<Result<(), LoopbackError>>
+    pub fn test_loopback(
+        &mut self,
+        place: &mut [u8; 16],
+        budget: u16,
+    ) -> Waited<Result<(), LoopbackError>>
         ensures { λ r. ⌜ Ran device (Loop·tested budget (kept (now (self .entry))) (now (place .entry)) (verdict loopback-refusal (r .result)) (r .fruitless) (now (place .exit)) (kept (now (self .exit)))) (now (self .entry) .backend) (now (self .exit) .backend) ⌝ }
     {
         let mut polls = Budget::new(budget);
@@ -110,7 +114,8 @@ impl<B: Backend> Uart16550<B> {
         ensures { λ _. ⌜ Left device (now (self .entry) .backend) (now (self .exit) .backend) (kept (now (self .entry))) (kept (now (self .exit))) mcr ier «lsr_saved» «old_msr» ⌝ }
     {
         // the modem lines change here, and no interrupt is to tell of it
-        self.backend.write(offsets::MCR, mcr & !mcr::OUT_2_INT_ENABLE);
+        self.backend
+            .write(offsets::MCR, mcr & !mcr::OUT_2_INT_ENABLE);
         let msr = self.backend.read(offsets::MSR);
         self.backend.write(offsets::MCR, mcr);
         self.msr_saved |= modem_line_changes(old_msr, msr);
@@ -119,7 +124,11 @@ impl<B: Backend> Uart16550<B> {
     }
 
     /// The test in loop mode.
-    fn test_in_loop_mode(&mut self, place: &mut [u8; 16], budget: &mut Budget) -> Result<(), LoopbackError>
+    fn test_in_loop_mode(
+        &mut self,
+        place: &mut [u8; 16],
+        budget: &mut Budget,
+    ) -> Result<(), LoopbackError>
         requires { ⌜ now budget .fruitless ≤ now budget .limit ⌝ }
         ensures { λ r. ⌜ In·loop device (now (self .entry) .backend) (now (self .exit) .backend) (kept (now (self .entry))) (kept (now (self .exit))) (now (budget .entry) .limit - now (budget .entry) .fruitless) (now (place .entry)) (now (place .exit)) (verdict loopback-refusal r) (now (budget .entry) .fruitless) (now (budget .exit) .fruitless) ⌝ }
     {
@@ -129,7 +138,11 @@ impl<B: Backend> Uart16550<B> {
     }
 
     /// The receiver is emptied, and then a byte and a message have to come back.
-    fn test_transfers(&mut self, place: &mut [u8; 16], budget: &mut Budget) -> Result<(), LoopbackError>
+    fn test_transfers(
+        &mut self,
+        place: &mut [u8; 16],
+        budget: &mut Budget,
+    ) -> Result<(), LoopbackError>
         requires { ⌜ now budget .fruitless ≤ now budget .limit ⌝ }
         ensures { λ r. ⌜ Done device (now (self .entry) .backend) (now (self .exit) .backend) (kept (now (self .entry))) (kept (now (self .exit))) (Looped (settings (kept (now (self .entry)))) (now (budget .entry) .limit - now (budget .entry) .fruitless) (now (place .entry)) (verdict loopback-refusal r) (now (place .exit))) (now (budget .entry) .fruitless) (now (budget .exit) .fruitless) ⌝ }
     {
@@ -168,7 +181,11 @@ impl<B: Backend> Uart16550<B> {
     }
 
     /// A message has to come back; where another one does, the place gets that.
-    fn test_message(&mut self, place: &mut [u8; 16], budget: &mut Budget) -> Result<(), LoopbackError>
+    fn test_message(
+        &mut self,
+        place: &mut [u8; 16],
+        budget: &mut Budget,
+    ) -> Result<(), LoopbackError>
         requires { ⌜ now budget .fruitless ≤ now budget .limit ⌝ }
         ensures { λ r. ⌜ Done device (now (self .entry) .backend) (now (self .exit) .backend) (kept (now (self .entry))) (kept (now (self .exit))) (Message·tested (settings (kept (now (self .entry)))) (now (budget .entry) .limit - now (budget .entry) .fruitless) (now (place .entry)) (verdict loopback-refusal r) (now (place .exit))) (now (budget .entry) .fruitless) (now (budget .exit) .fruitless) ⌝ }
     {
@@ -199,7 +216,12 @@ impl<B: Backend> Uart16550<B> {
     }
 
     /// Sends these bytes, and then reads as many.
-    fn echo(&mut self, bytes: &[u8], back: &mut [u8], budget: &mut Budget) -> Result<(), BudgetError>
+    fn echo(
+        &mut self,
+        bytes: &[u8],
+        back: &mut [u8],
+        budget: &mut Budget,
+    ) -> Result<(), BudgetError>
         requires room { ⌜ now budget .fruitless ≤ now budget .limit ⌝ }
         requires lengths { ⌜ length (now back) ≡ length (now bytes) ⌝ }
         ensures limit { λ _. ⌜ now (budget .exit) .limit ≡ now (budget .entry) .limit ⌝ }

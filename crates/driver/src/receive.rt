@@ -63,11 +63,21 @@ impl<B: Backend> Uart16550<B> {
         let mut polls = Budget::new(budget);
         let mut moved = 0;
         let result = self.fill(buffer, &mut moved, &mut polls, Wait::Receive);
-        Transferred { result, fruitless: polls.fruitless(), moved }
+        Transferred {
+            result,
+            fruitless: polls.fruitless(),
+            moved,
+        }
     }
 
     /// Fills the whole buffer within a budget that may be partly spent, and counts its places.
-    pub(crate) fn fill(&mut self, buffer: &mut [u8], moved: &mut usize, budget: &mut Budget, wait: Wait) -> Result<(), BudgetError>
+    pub(crate) fn fill(
+        &mut self,
+        buffer: &mut [u8],
+        moved: &mut usize,
+        budget: &mut Budget,
+        wait: Wait,
+    ) -> Result<(), BudgetError>
         requires room { ⌜ now budget .fruitless ≤ now budget .limit ⌝ }
         requires none { ⌜ now moved ≡ 0 ⌝ }
         ensures limit { λ _. ⌜ now (budget .exit) .limit ≡ now (budget .entry) .limit ⌝ }
@@ -82,7 +92,11 @@ impl<B: Backend> Uart16550<B> {
     }
 
     /// Waits for one character.
-    pub(crate) fn receive_waiting(&mut self, budget: &mut Budget, wait: Wait) -> Result<u8, BudgetError>
+    pub(crate) fn receive_waiting(
+        &mut self,
+        budget: &mut Budget,
+        wait: Wait,
+    ) -> Result<u8, BudgetError>
         requires { ⌜ now budget .fruitless ≤ now budget .limit ⌝ }
         ensures limit { λ _. ⌜ now (budget .exit) .limit ≡ now (budget .entry) .limit ⌝ }
         ensures waited { λ r. ⌜ ((ts : List Try) × Waits·for (now (budget .entry) .limit - now (budget .entry) .fruitless) wait (verdict budget-refusal r) ts (got-by r)

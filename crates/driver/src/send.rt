@@ -14,6 +14,7 @@ use crate::budget::Budget;
 use crate::budget::Transferred;
 use crate::uart::Uart16550;
 use backends::Backend;
+use registers::FIFO_SIZE;
 use registers::error::BudgetError;
 use registers::error::ByteSendError;
 use registers::error::Wait;
@@ -22,7 +23,6 @@ use registers::lsr;
 use registers::mcr;
 use registers::msr;
 use registers::offsets;
-use registers::FIFO_SIZE;
 
 impl<B: Backend> Uart16550<B> {
     /// Whether something may be sent: 11 where the transmitter holds characters, 12 where the
@@ -79,11 +79,21 @@ impl<B: Backend> Uart16550<B> {
         let mut polls = Budget::new(budget);
         let mut moved = 0;
         let result = self.send_all(bytes, &mut moved, &mut polls, Wait::Send);
-        Transferred { result, fruitless: polls.fruitless(), moved }
+        Transferred {
+            result,
+            fruitless: polls.fruitless(),
+            moved,
+        }
     }
 
     /// Sends the whole buffer within a budget that may be partly spent, and counts its bytes.
-    pub(crate) fn send_all(&mut self, bytes: &[u8], moved: &mut usize, budget: &mut Budget, wait: Wait) -> Result<(), BudgetError>
+    pub(crate) fn send_all(
+        &mut self,
+        bytes: &[u8],
+        moved: &mut usize,
+        budget: &mut Budget,
+        wait: Wait,
+    ) -> Result<(), BudgetError>
         requires room { ⌜ now budget .fruitless ≤ now budget .limit ⌝ }
         requires none { ⌜ now moved ≡ 0 ⌝ }
         ensures limit { λ _. ⌜ now (budget .exit) .limit ≡ now (budget .entry) .limit ⌝ }

@@ -22,9 +22,11 @@ returns-in-Break-echo g c =
 pub loop-i-again : need.loop-i-again
 loop-i-again g c =
     let i = c .loop-i .inv in
-    let q = c .in-Continue-echo .ensures tt in
-    (more-singly (g .B·Backend .device) _ _ _ _ _ _ (c .args .budget .now .limit) _ _ _ _ (c .loop-i .i) _ _ (i .0) _ (omega arith) (omega arith) (i .2) (q .echoed),
-     omega (arith, q .room, q .limit), omega (arith, q .limit))
+    let q = c .in-Continue-echo .ensures tt in (
+      more-singly (g .B·Backend .device) _ _ _ _ _ _ (c .args .budget .now .limit) _ _ _ _ (c .loop-i .i) _ _ (i .0) _ (omega arith) (omega arith) (i .2) (q .echoed),
+      omega (arith, q .room, q .limit),
+      omega (arith, q .limit),
+    )
 
 pub returns : need.returns
 returns g c =

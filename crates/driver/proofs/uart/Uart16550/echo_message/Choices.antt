@@ -11,8 +11,8 @@ use Rattle.driver.proofs.uart.Uart16550.echo_message.Given as given
 abbrev pub Inv-loop-i : given.InvT-loop-i
 Inv-loop-i g l =
     Done (g .B·Backend .device) (l .entry .self .backend) (l .self .backend) (kept (l .entry .self)) (kept (l .self))
-      (λ ps. Singly (settings (kept (l .entry .self))) (l .entry .budget .limit - l .entry .budget .fruitless) (l .i) None ps
-        × (length (back ps) ≡ l .i) × (l .back ≡ filled (back ps) (l .entry .back)))
-      (l .entry .budget .fruitless) (l .budget .fruitless)
+    (λ ps. Singly (settings (kept (l .entry .self))) (l .entry .budget .limit - l .entry .budget .fruitless) (l .i) None ps
+    × (length (back ps) ≡ l .i) × (l .back ≡ filled (back ps) (l .entry .back)))
+    (l .entry .budget .fruitless) (l .budget .fruitless)
     × (l .budget .fruitless ≤ l .budget .limit)
     × (l .budget .limit ≡ l .entry .budget .limit)

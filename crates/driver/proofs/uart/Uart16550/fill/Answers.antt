@@ -18,10 +18,17 @@ loop-place-again g c =
     let w = c .in-Continue-place .ensures tt .waited in
     let t = misses-append (i .0) (w .0) in
     let l = waited-in-time _ _ _ _ (w .1) in
-    let p = place-more (c .args .buffer .now) (c .loop-place .buffer) (i .0) (w .0) (c .loop-place .place-index) (c .in-Continue-place .field-0) (i .3) (i .4) (waited-got _ _ _ _ _ (w .1)) (omega arith) in
-    (i .0 ++ w .0, made-append (g .B·Backend .device) _ _ _ _ _ _ (i .0) (w .0) (i .1) (w .2),
-     exactly-more _ _ _ _ (i .0) (w .0) _ (omega arith) (i .3) (omega arith) (w .1),
-     p .0, p .1, omega arith, omega (arith, w .3), omega (arith, w .3, c .in-Continue-place .ensures tt .limit), omega (arith, c .in-Continue-place .ensures tt .limit))
+    let p = place-more (c .args .buffer .now) (c .loop-place .buffer) (i .0) (w .0) (c .loop-place .place-index) (c .in-Continue-place .field-0) (i .3) (i .4) (waited-got _ _ _ _ _ (w .1)) (omega arith) in (
+      i .0 ++ w .0,
+      made-append (g .B·Backend .device) _ _ _ _ _ _ (i .0) (w .0) (i .1) (w .2),
+      exactly-more _ _ _ _ (i .0) (w .0) _ (omega arith) (i .3) (omega arith) (w .1),
+      p .0,
+      p .1,
+      omega arith,
+      omega (arith, w .3),
+      omega (arith, w .3, c .in-Continue-place .ensures tt .limit),
+      omega (arith, c .in-Continue-place .ensures tt .limit),
+    )
 
 pub returns-in-Break-place : need.returns-in-Break-place
 returns-in-Break-place g c =
@@ -30,20 +37,26 @@ returns-in-Break-place g c =
     let w = c .in-Break-place .ensures tt .waited in
     let t = misses-append (i .0) (w .0) in
     let p = place-same (c .args .buffer .now) (c .loop-place .buffer) (i .0) (w .0) (c .loop-place .place-index) 0 (i .3) (i .4) (waited-got _ _ _ _ _ (w .1)) in
-    rw (e .1, e .2) (record
-    { limit = omega (arith, c .in-Break-place .ensures tt .limit)
-    ; spent = omega (arith, w .3)
-    ; filled = record
-      { ts = i .0 ++ w .0; made = made-append (g .B·Backend .device) _ _ _ _ _ _ (i .0) (w .0) (i .1) (w .2)
-      ; fills = exactly-cut _ _ _ _ _ (i .0) (w .0) _ (omega arith) (omega arith) (omega arith) (w .1)
-      ; buffer = set-getD (c .loop-place .buffer) (c .loop-place .place-index) 0 ∙ p .1
-      ; counted = omega (arith, w .3); answer = i .5 ∙ sym (p .0) } })
+    rw (e .1, e .2) (record {
+      limit = omega (arith, c .in-Break-place .ensures tt .limit);
+      spent = omega (arith, w .3);
+      filled = record {
+        ts = i .0 ++ w .0;
+        made = made-append (g .B·Backend .device) _ _ _ _ _ _ (i .0) (w .0) (i .1) (w .2);
+        fills = exactly-cut _ _ _ _ _ (i .0) (w .0) _ (omega arith) (omega arith) (omega arith) (w .1);
+        buffer = set-getD (c .loop-place .buffer) (c .loop-place .place-index) 0 ∙ p .1;
+        counted = omega (arith, w .3);
+        answer = i .5 ∙ sym (p .0);
+      };
+    })
 
 pub returns : need.returns
 returns g c =
     let i = c .loop-place .inv in
     let e : c .loop-place .place-index ≡ length (c .args .buffer .now) = omega arith in
-    record
-    { limit = omega arith; spent = omega arith
-    ; filled = record
-      { ts = i .0; made = i .1; fills = rw e at (i .2); buffer = i .4; counted = omega arith; answer = i .5 ∙ sym (i .3) } }
+    record {
+      limit = omega arith;
+      spent = omega arith;
+      filled = record
+          { ts = i .0; made = i .1; fills = rw e at (i .2); buffer = i .4; counted = omega arith; answer = i .5 ∙ sym (i .3) };
+    }

@@ -13,5 +13,5 @@ pub returns : need.returns
 returns g c =
     let b = c .in-Continue-wait-for-transmitter .ensures tt in
     whole-test (g .B·Backend .device) _ _ _ _ _ _ _ _ _ _ (c .mcr-mcr .ensures) (c .ier-ier .ensures) _ _ _ _ (b .answer .1)
-        _ _ (c .enter-loop-mode-msr .result) (c .enter-loop-mode-msr .ensures .accesses) (c .enter-loop-mode-msr .ensures .keeps)
-        _ _ _ _ _ _ (c .test-in-loop-mode-result .ensures) _ _ (c .leave-loop-mode .ensures) (c .pre) (b .answer .0) (b .limit)
+    _ _ (c .enter-loop-mode-msr .result) (c .enter-loop-mode-msr .ensures .accesses) (c .enter-loop-mode-msr .ensures .keeps)
+    _ _ _ _ _ _ (c .test-in-loop-mode-result .ensures) _ _ (c .leave-loop-mode .ensures) (c .pre) (b .answer .0) (b .limit)

@@ -26,14 +26,15 @@ pub loop-byte-again : need.loop-byte-again
 loop-byte-again g c =
     let d = g .B·Backend .device in
     let i = c .loop-byte .byte-index in
-    let m = take-more (take (c .min-count .result - 0) (c .args .buffer .now)) i 0 (c .loop-byte-test .taken) in
-    (subst (λ bs. Runs d (writes-of bs) (c .ready-to-send .last .self .backend) (c .write .last .self)) (sym m)
-      (rw writes-append (runs-append d (writes-of (take i (take (c .min-count .result - 0) (c .args .buffer .now)))) (wr 0 (getD (take (c .min-count .result - 0) (c .args .buffer .now)) i 0) ∷ []) _ _ _
-        (c .loop-byte .inv .0) (runs-write d 0 _ _ _ (c .write .ensures .state)))),
-     c .loop-byte .inv .1)
+    let m = take-more (take (c .min-count .result - 0) (c .args .buffer .now)) i 0 (c .loop-byte-test .taken) in (
+      subst (λ bs. Runs d (writes-of bs) (c .ready-to-send .last .self .backend) (c .write .last .self)) (sym m)
+          (rw writes-append (runs-append d (writes-of (take i (take (c .min-count .result - 0) (c .args .buffer .now)))) (wr 0 (getD (take (c .min-count .result - 0) (c .args .buffer .now)) i 0) ∷ []) _ _ _
+          (c .loop-byte .inv .0) (runs-write d 0 _ _ _ (c .write .ensures .state)))),
+      c .loop-byte .inv .1,
+    )
 
 pub returns : need.returns
 returns g c =
     let e = eqb-false _ _ (sym (c .if-is-empty .ensures tt)) in
     sent-some (g .B·Backend .device) _ _ _ _ _ _ _ (c .min-count .result) (c .loop-byte .byte-index) (c .burst .result) (omega arith) (c .in-Ok .ensures tt) (c .loop-byte .inv .1)
-        (c .burst .ensures) (c .min-count .ensures) (c .loop-byte-test .left) (c .loop-byte .inv .0)
+    (c .burst .ensures) (c .min-count .ensures) (c .loop-byte-test .left) (c .loop-byte .inv .0)

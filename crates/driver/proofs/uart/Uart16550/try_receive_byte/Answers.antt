@@ -22,12 +22,14 @@ pub returns : need.returns
 returns g c =
     let d = g .B·Backend .device in
     let p = c .in-Continue-ready-to-receive .ensures tt in
-    record
-    { status = p .status
-    ; made = record
-      { sound = (shown _ _ (p .answer), tt)
-      ; ran = runs-append d (rd 5 (p .status) ∷ []) (rd 0 (c .read .result) ∷ []) _ _ _ (p .ran) (runs-read d 0 (c .read .result) _ _ (c .read .ensures .value) (c .read .ensures .state))
-      ; keeps = p .keeps } }
+    record {
+      status = p .status;
+      made = record {
+        sound = (shown _ _ (p .answer), tt);
+        ran = runs-append d (rd 5 (p .status) ∷ []) (rd 0 (c .read .result) ∷ []) _ _ _ (p .ran) (runs-read d 0 (c .read .result) _ _ (c .read .ensures .value) (c .read .ensures .state));
+        keeps = p .keeps;
+      };
+    }
 
 pub returns-in-Break-ready-to-receive : need.returns-in-Break-ready-to-receive
 returns-in-Break-ready-to-receive g c =

@@ -12,6 +12,7 @@ returns-in-rest g c =
     let p = c .send-bytes .ensures in
     let h = taken-within _ _ (p .tried) (p .sound) in
     let e : c .send-bytes .result ≡ 1 = omega (arith, h, p .answer) in
-    record
-    { sent = subst (λ n. Sent (g .B·Backend .device) (c .args .self .now .backend) (c .send-bytes .last .self .backend) (kept (c .args .self .now)) (kept (c .send-bytes .last .self)) (c .args .byte ∷ []) n) e p
-    ; answer = refl }
+    record {
+      sent = subst (λ n. Sent (g .B·Backend .device) (c .args .self .now .backend) (c .send-bytes .last .self .backend) (kept (c .args .self .now)) (kept (c .send-bytes .last .self)) (c .args .byte ∷ []) n) e p;
+      answer = refl;
+    }
