@@ -1,11 +1,8 @@
 //! What a driver is set up with.
 
-ghost use Rattle.std.specs.Prelude.{◌≡◌, ◌<◌, IsSomeAnd, Some, refl};
+ghost use Rattle.std.specs.Prelude.{◌≡◌, ◌<◌, IsSomeAnd};
 ghost use Rattle.registers.specs.Config.{rate, default, NamedRate};
-ghost use Rattle.std.specs.Ordering.{MatchOrdering, nat_cmp};
-ghost use Rattle.std.specs.Cmp.Rules.{comparing};
-ghost use Rattle.std.proofs.Common.{rules};
-ghost use Rattle.std.specs.Cmp.{partial_order_from_agreeing_total};
+ghost use Rattle.std.specs.Ordering.{MatchOrdering};
 
 use crate::divisor::CLK_FREQUENCY_HZ;
 use crate::fcr::FifoTriggerLevel;
@@ -71,26 +68,20 @@ impl BaudRate {
     }
 }
 
-impl PartialOrd for BaudRate {
-    ghost partial_cmp = { λ a b. Some (nat_cmp (rate a) (rate b)) };
-
-    ghost laws = { partial_order_from_agreeing_total (λ a b. nat_cmp (rate a) (rate b)) (Prim.search (comparing, rules)) (λ _ _. refl) (Prim.search (comparing, rules)) };
-
-    fn partial_cmp(&self, other: &Self) -> Option<Ordering> {
+// Not as the traits `PartialOrd` and `Ord`: their laws ask that what compares as equal is equal, and
+// `Custom(9_600)` and `Baud9600` are two values of the same number.
+impl BaudRate {
+    /// The order of rates by their numbers, which any two rates have.
+    pub fn partial_cmp(&self, other: &Self) -> Option<Ordering>
+        ensures { IsSomeAnd result (λ o. MatchOrdering o (rate self.now < rate other.now) (rate self.now ≡ rate other.now) (rate other.now < rate self.now)) }
+    {
         Some(self.cmp(other))
     }
-}
 
-impl Ord for BaudRate {
-    ghost cmp = { λ a b. nat_cmp (rate a) (rate b) };
-
-    ghost total = { Prim.search (comparing, rules) };
-
-    ghost matches_partial_cmp = { Prim.search (comparing, rules) };
-
-    ghost matches_eq = { Prim.search (comparing, rules) };
-
-    fn cmp(&self, other: &Self) -> Ordering {
+    /// The order of rates by their numbers.
+    pub fn cmp(&self, other: &Self) -> Ordering
+        ensures { MatchOrdering result (rate self.now < rate other.now) (rate self.now ≡ rate other.now) (rate other.now < rate self.now) }
+    {
         self.to_integer().cmp(&other.to_integer())
     }
 }

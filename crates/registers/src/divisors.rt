@@ -1,6 +1,6 @@
 //! The divisors that give an integer rate at the usual clock.
 
-ghost use Rattle.std.specs.Prelude.{◌≡◌, ℕ, Decides};
+ghost use Rattle.std.specs.Prelude.{◌≡◌, ◌==◌, ℕ};
 ghost use Rattle.registers.specs.Divisors.{divisor_value, DividesClock, Listed};
 ghost use Rattle.std.specs.Cmp.Rules.{comparing};
 ghost use Rattle.std.proofs.Common.{rules};
@@ -120,7 +120,7 @@ impl Divisor {
 }
 
 impl PartialEq for Divisor {
-    ghost equals = { λ a b r. Decides r (divisor_value a ≡ divisor_value b) };
+    ghost eq = { λ a b. divisor_value a == divisor_value b };
 
     ghost laws = { Keys.partial_equiv_from_equiv (Prim.search (comparing, rules)) };
 

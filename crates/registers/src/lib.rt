@@ -1,6 +1,8 @@
 //! What the 16550 datasheet fixes, without touching a device: register offsets, bits and tables,
 //! divisors, the configuration, and the refusals with their numbers.
 
+#![tactic(auto)]
+
 pub mod config;
 pub mod divisor;
 pub mod divisors;
