@@ -1,6 +1,8 @@
 //! Reads bytes from standard input, lets the driver initialise a scripted device with them, and
 //! prints every register access that the driver made.
 
+#![tactic(auto)]
+
 mod play;
 mod report;
 

@@ -1,7 +1,7 @@
 -- A device stands for another where each single access agrees.
-use Rattle.std.proofs.Common.{◌≡◌, ℕ, ◌<◌, ◌≤◌, true, false, cond, List, [], ◌∷◌, sym, refl, ap, ◌∙◌, subst, ⊎_elim}
+use Rattle.std.proofs.Common.{◌≡◌, ℕ, ◌<◌, List, [], ◌∷◌, sym, refl, ◌∙◌, subst, ⊎_elim}
 use Rattle.std.proofs.lemmas.Bool.{cases_lt, lt-ltb, le-ltb}
-use Rattle.backends.specs.Device.{Device, Runs, Allowed, after, reads, moves, writes}
+use Rattle.backends.specs.Device.{Device, Runs, Allowed, after}
 use Rattle.backends.specs.Alike.{whole, Within, Led, ActsAs}
 use Rattle.backends.specs.declared.access.Access.{Access}
 use Rattle.backends.specs.declared.access.Kind.{Kind}

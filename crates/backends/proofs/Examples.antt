@@ -1,5 +1,5 @@
 -- The places that are worked out by hand, and what a call that asks for them answers.
-use Rattle.std.proofs.Common.{◌≡◌, ℕ, ◌≤◌, Bool, true, false, is_ok, Ok, Err, Result, refl, arith}
+use Rattle.std.proofs.Common.{◌≡◌, ℕ, true, false, is_ok, Ok, Err, Result, refl, arith}
 use lib.Count.{ones}
 use Rattle.registers.specs.Refusal.{Refusal, address_refusal}
 use Rattle.registers.specs.declared.error.InvalidAddressError.{InvalidAddressError}

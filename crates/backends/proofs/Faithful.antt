@@ -6,7 +6,7 @@ use Rattle.backends.specs.declared.access.Kind.TheVariants.{Read, Write}
 use Rattle.backends.specs.declared.recorder.Recorder.{Recorder}
 use Rattle.backends.specs.Device.{Device, Runs, Allowed, after, rd, wr}
 use Rattle.backends.specs.Log.{Holds, noted}
-use Rattle.backends.specs.Recorder.{recorded, Traced, Faithful}
+use Rattle.backends.specs.Recorder.{recorded, Faithful}
 use Rattle.backends.proofs.Kept.{noted_holds}
 
 module _ {S : Type 0} (d : Device S) where

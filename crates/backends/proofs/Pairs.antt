@@ -1,5 +1,5 @@
 -- An adapter whose addresses lie on one side of a pair is what it would be over that side alone.
-use Rattle.std.proofs.Common.{◌≡◌, ℕ, ◌+◌, ◌*◌, ◌<◌, ◌≤◌, Bool, true, false, ltb, refl, mul-le-mul_right, arith}
+use Rattle.std.proofs.Common.{◌≡◌, ℕ, ◌+◌, ◌*◌, ◌<◌, ◌≤◌, true, false, ltb, refl, mul-le-mul_right, arith}
 use Rattle.std.proofs.lemmas.Bool.{lt-ltb, le-ltb}
 use Rattle.backends.specs.Space.{Bus}
 use Rattle.backends.specs.Place.{register}

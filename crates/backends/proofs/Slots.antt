@@ -1,5 +1,5 @@
 -- The offset of an address is the register that stands there, and 8 where none does.
-use Rattle.std.proofs.Common.{◌≡◌, ℕ, ◌+◌, ◌-◌, ◌*◌, ◌/◌, ◌%◌, ◌<◌, ◌≤◌, min, true, false, cond, eqb, ltb, sym, refl, ap, ◌∙◌, ⊎_elim, div-add-mod', mul-div_cancel, arith}
+use Rattle.std.proofs.Common.{◌≡◌, ℕ, ◌+◌, ◌-◌, ◌*◌, ◌/◌, ◌%◌, ◌<◌, ◌≤◌, min, ⊎_elim, div-add-mod', mul-div_cancel, arith}
 use native.Mathlib.Nat.{mul-mod_left, add-sub_cancel_left}
 use Rattle.std.proofs.lemmas.Bool.{cases_lt, lt-ltb, le-ltb, eq-eqb, ne_eqb}
 use Rattle.backends.specs.Place.{register, offset_at, Elsewhere}

@@ -1,8 +1,8 @@
 -- An adapter over a window of equal base and stride is the backend behind the window.
-use Rattle.std.proofs.Common.{◌≡◌, ℕ, ◌<◌, cond, sym, refl, ap, ◌∙◌, ap₂}
+use Rattle.std.proofs.Common.{◌≡◌, ℕ, ◌<◌, cond, sym, ap, ◌∙◌, ap₂}
 use Rattle.std.proofs.lemmas.Bool.{lt-ltb}
 use Rattle.backends.specs.Device.{Device, reads, moves, writes}
-use Rattle.backends.specs.Place.{register, offset_at}
+use Rattle.backends.specs.Place.{register}
 use Rattle.backends.specs.Adapters.{mapped, ported}
 use Rattle.backends.specs.Window.{slot, windowed, Shows, through, through_ports}
 use Rattle.backends.specs.declared.place.MmioPlace.{MmioPlace}

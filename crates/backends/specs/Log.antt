@@ -1,5 +1,5 @@
 -- The table of a recorder: the first 256 accesses, and a count that stays at the largest 64-bit number.
-use Rattle.std.specs.Prelude.{◌≡◌, ℕ, ◌+◌, min, cond, List, length, take, nat_lt, slice_set}
+use Rattle.std.specs.Prelude.{◌≡◌, ◌+◌, min, cond, List, length, take, nat_lt, slice_set}
 use Rattle.backends.specs.declared.access.Access.{Access}
 use Rattle.backends.specs.declared.access_log.AccessLog.{AccessLog}
 

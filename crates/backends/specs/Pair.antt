@@ -1,5 +1,5 @@
 -- A pair of spaces: addresses below a boundary belong to the first, the others to the second.
-use Rattle.std.specs.Prelude.{ℕ, ◌<◌, ◌≤◌, cond, nat_lt}
+use Rattle.std.specs.Prelude.{◌<◌, ◌≤◌, cond, nat_lt}
 use Rattle.backends.specs.Space.{Bus}
 use Rattle.backends.specs.Place.{register}
 use Rattle.backends.specs.Alike.{ActsAs}

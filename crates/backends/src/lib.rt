@@ -1,6 +1,8 @@
 //! What a device is, and how it is reached: the backend interface, a scripted device and a recorder;
 //! address spaces, and the adapters between the two.
 
+#![tactic(auto)]
+
 mod access;
 mod access_log;
 mod backend;

@@ -20,7 +20,7 @@ impl<B: Backend> Recorder<B> {
     /// A recorder that has recorded nothing. What it will hold is what is done with it.
     pub fn new(inner: B) -> Self
         ensures holds { result.inner ≡ inner }
-        ensures faithful { Faithful device inner result }
+        ensures faithful { Faithful B.device inner result }
     {
         Recorder {
             inner,

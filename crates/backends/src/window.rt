@@ -19,7 +19,7 @@ impl<B: Backend> Window<B> {
     /// The backend's registers, a stride apart.
     pub fn new(place: MmioPlace, backend: B) -> Self
         ensures made { result ≡ record { place = place; backend = backend } }
-        ensures shows { Shows device result }
+        ensures shows { Shows B.device result }
     {
         Window { place, backend }
     }
@@ -27,7 +27,7 @@ impl<B: Backend> Window<B> {
     /// The backend's registers at ports, side by side.
     pub fn at_ports(place: PortPlace, backend: B) -> Self
         ensures made { (result.place.base ≡ place.base) × (result.place.stride ≡ 1) × (result.backend ≡ backend) }
-        ensures shows { Shows device result }
+        ensures shows { Shows B.device result }
     {
         Window::new(place.widened(), backend)
     }

@@ -1,6 +1,8 @@
 //! Tests of the backends and address spaces: the edges of every question about an address, and
 //! accesses through stacks of adapters.
 
+#![tactic(auto)]
+
 #[cfg(test)]
 mod places;
 #[cfg(test)]

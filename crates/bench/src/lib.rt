@@ -1,5 +1,7 @@
 //! Simulated 16550s, proved to keep the rules of a chip.
 
+#![tactic(auto)]
+
 mod bench;
 mod core;
 mod flag;

@@ -1,5 +1,7 @@
 //! Runs of simulated chips, worked out by hand from the rules.
 
+#![tactic(auto)]
+
 #[cfg(test)]
 mod tables;
 #[cfg(test)]

@@ -1,6 +1,8 @@
 //! Reads a list of driver calls from standard input, plays it on scripted devices, and prints what
 //! each call answered, what the driver keeps, and every register access.
 
+#![tactic(auto)]
+
 mod calls;
 mod divisor_list;
 mod encodings;

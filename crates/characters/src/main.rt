@@ -1,6 +1,8 @@
 //! Lets characters overrun a simulated chip's receive queue, makes a list of driver calls on it,
 //! and prints where every character went.
 
+#![tactic(auto)]
+
 mod report;
 mod run;
 

@@ -1,5 +1,7 @@
 //! The driver for 16550 devices.
 
+#![tactic(auto)]
+
 mod budget;
 mod getters;
 mod loopback;

@@ -61,7 +61,7 @@ impl<B: Backend> Uart16550<B> {
         place: &mut [u8; 16],
         budget: u16,
     ) -> Waited<Result<(), LoopbackError>>
-        ensures { Ran device (LoopTested budget (kept self.old) place.old (verdict loopback_refusal result.result) result.fruitless place.new (kept self.new)) self.old.backend self.new.backend }
+        ensures { Ran B.device (LoopTested budget (kept self.old) place.old (verdict loopback_refusal result.result) result.fruitless place.new (kept self.new)) self.old.backend self.new.backend }
     {
         let mut polls = Budget::new(budget);
         let result = self.loop_test(place, &mut polls);
@@ -74,7 +74,7 @@ impl<B: Backend> Uart16550<B> {
     /// `test_loopback`, with the budget that it may spend.
     fn loop_test(&mut self, place: &mut [u8; 16], budget: &mut Budget) -> Result<(), LoopbackError>
         requires { budget.old.fruitless ≡ 0 }
-        ensures { Ran device (LoopTested budget.old.limit (kept self.old) place.old (verdict loopback_refusal result) budget.new.fruitless place.new (kept self.new)) self.old.backend self.new.backend }
+        ensures { Ran B.device (LoopTested budget.old.limit (kept self.old) place.old (verdict loopback_refusal result) budget.new.fruitless place.new (kept self.new)) self.old.backend self.new.backend }
     {
         let mcr = self.mcr();
         let ier = self.ier();
@@ -90,7 +90,7 @@ impl<B: Backend> Uart16550<B> {
 
     /// Enters loop mode with all interrupts off, and answers the modem status before it.
     fn enter_loop_mode(&mut self) -> u8
-        ensures accesses { Runs device (rd 6 result ∷ wr 1 0 ∷ wr 4 0x10 ∷ []) self.old.backend self.new.backend }
+        ensures accesses { Runs B.device (rd 6 result ∷ wr 1 0 ∷ wr 4 0x10 ∷ []) self.old.backend self.new.backend }
         ensures keeps { kept self.new ≡ noting (kept self.old) [] (result ∷ []) }
     {
         let msr = self.read_msr();
@@ -101,7 +101,7 @@ impl<B: Backend> Uart16550<B> {
 
     /// Leaves loop mode: the registers and the saved line errors are what they were.
     fn leave_loop_mode(&mut self, mcr: u8, ier: u8, lsr_saved: u8, old_msr: u8)
-        ensures { Left device self.old.backend self.new.backend (kept self.old) (kept self.new) mcr ier lsr_saved old_msr }
+        ensures { Left B.device self.old.backend self.new.backend (kept self.old) (kept self.new) mcr ier lsr_saved old_msr }
     {
         // the modem lines change here, and no interrupt is to tell of it
         self.backend
@@ -120,7 +120,7 @@ impl<B: Backend> Uart16550<B> {
         budget: &mut Budget,
     ) -> Result<(), LoopbackError>
         requires { budget.old.fruitless ≤ budget.old.limit }
-        ensures { InLoop device self.old.backend self.new.backend (kept self.old) (kept self.new) (budget.old.limit - budget.old.fruitless) place.old place.new (verdict loopback_refusal result) budget.old.fruitless budget.new.fruitless }
+        ensures { InLoop B.device self.old.backend self.new.backend (kept self.old) (kept self.new) (budget.old.limit - budget.old.fruitless) place.old place.new (verdict loopback_refusal result) budget.old.fruitless budget.new.fruitless }
     {
         // this empties FIFOs
         self.configure_fcr();
@@ -134,7 +134,7 @@ impl<B: Backend> Uart16550<B> {
         budget: &mut Budget,
     ) -> Result<(), LoopbackError>
         requires { budget.old.fruitless ≤ budget.old.limit }
-        ensures { Done device self.old.backend self.new.backend (kept self.old) (kept self.new) (Looped (settings (kept self.old)) (budget.old.limit - budget.old.fruitless) place.old (verdict loopback_refusal result) place.new) budget.old.fruitless budget.new.fruitless }
+        ensures { Done B.device self.old.backend self.new.backend (kept self.old) (kept self.new) (Looped (settings (kept self.old)) (budget.old.limit - budget.old.fruitless) place.old (verdict loopback_refusal result) place.new) budget.old.fruitless budget.new.fruitless }
     {
         self.drain(budget)?;
         self.test_byte(budget)?;
@@ -146,7 +146,7 @@ impl<B: Backend> Uart16550<B> {
         requires { budget.old.fruitless ≤ budget.old.limit }
         ensures limit { budget.new.limit ≡ budget.old.limit }
         ensures room { Within (verdict budget_refusal result) budget.new.fruitless budget.old.limit }
-        ensures drained { Done device self.old.backend self.new.backend (kept self.old) (kept self.new) (Drains (budget.old.limit - budget.old.fruitless) (verdict budget_refusal result)) budget.old.fruitless budget.new.fruitless }
+        ensures drained { Done B.device self.old.backend self.new.backend (kept self.old) (kept self.new) (Drains (budget.old.limit - budget.old.fruitless) (verdict budget_refusal result)) budget.old.fruitless budget.new.fruitless }
     {
         while let Ok(_) = self.try_receive_byte() {
             budget.spend(Wait::Drain)?;
@@ -159,7 +159,7 @@ impl<B: Backend> Uart16550<B> {
         requires { budget.old.fruitless ≤ budget.old.limit }
         ensures limit { budget.new.limit ≡ budget.old.limit }
         ensures room { Within (verdict loopback_refusal result) budget.new.fruitless budget.old.limit }
-        ensures tested { Done device self.old.backend self.new.backend (kept self.old) (kept self.new) (ByteTested (settings (kept self.old)) (budget.old.limit - budget.old.fruitless) (verdict loopback_refusal result)) budget.old.fruitless budget.new.fruitless }
+        ensures tested { Done B.device self.old.backend self.new.backend (kept self.old) (kept self.new) (ByteTested (settings (kept self.old)) (budget.old.limit - budget.old.fruitless) (verdict loopback_refusal result)) budget.old.fruitless budget.new.fruitless }
     {
         self.try_send_byte(TEST_BYTE)?;
         let byte = self.receive_waiting(budget, Wait::TestByte)?;
@@ -177,7 +177,7 @@ impl<B: Backend> Uart16550<B> {
         budget: &mut Budget,
     ) -> Result<(), LoopbackError>
         requires { budget.old.fruitless ≤ budget.old.limit }
-        ensures { Done device self.old.backend self.new.backend (kept self.old) (kept self.new) (MessageTested (settings (kept self.old)) (budget.old.limit - budget.old.fruitless) place.old (verdict loopback_refusal result) place.new) budget.old.fruitless budget.new.fruitless }
+        ensures { Done B.device self.old.backend self.new.backend (kept self.old) (kept self.new) (MessageTested (settings (kept self.old)) (budget.old.limit - budget.old.fruitless) place.old (verdict loopback_refusal result) place.new) budget.old.fruitless budget.new.fruitless }
     {
         let mut back = [0; 16];
         self.echo_message(&mut back, budget)?;
@@ -192,7 +192,7 @@ impl<B: Backend> Uart16550<B> {
     /// Sends the test message and reads it back. Without FIFOs the receiver holds only one byte.
     fn echo_message(&mut self, back: &mut [u8; 16], budget: &mut Budget) -> Result<(), BudgetError>
         requires { budget.old.fruitless ≤ budget.old.limit }
-        ensures { Done device self.old.backend self.new.backend (kept self.old) (kept self.new) (λ ps. MessageEchoed (settings (kept self.old)) (budget.old.limit - budget.old.fruitless) (verdict budget_refusal result) ps × (verdict budget_refusal result ≡ None → back.new ≡ came_back ps)) budget.old.fruitless budget.new.fruitless }
+        ensures { Done B.device self.old.backend self.new.backend (kept self.old) (kept self.new) (λ ps. MessageEchoed (settings (kept self.old)) (budget.old.limit - budget.old.fruitless) (verdict budget_refusal result) ps × (verdict budget_refusal result ≡ None → back.new ≡ came_back ps)) budget.old.fruitless budget.new.fruitless }
     {
         if self.fifo_enabled {
             return self.echo(&TEST_MESSAGE, back, budget);
@@ -216,7 +216,7 @@ impl<B: Backend> Uart16550<B> {
         requires lengths { length back.old ≡ length bytes.now }
         ensures limit { budget.new.limit ≡ budget.old.limit }
         ensures room { Within (verdict budget_refusal result) budget.new.fruitless budget.old.limit }
-        ensures echoed { Done device self.old.backend self.new.backend (kept self.old) (kept self.new) (λ ps. Echoed (settings (kept self.old)) (budget.old.limit - budget.old.fruitless) bytes.now (verdict budget_refusal result) ps × (verdict budget_refusal result ≡ None → back.new ≡ came_back ps)) budget.old.fruitless budget.new.fruitless }
+        ensures echoed { Done B.device self.old.backend self.new.backend (kept self.old) (kept self.new) (λ ps. Echoed (settings (kept self.old)) (budget.old.limit - budget.old.fruitless) bytes.now (verdict budget_refusal result) ps × (verdict budget_refusal result ≡ None → back.new ≡ came_back ps)) budget.old.fruitless budget.new.fruitless }
     {
         let mut taken = 0;
         self.send_all(bytes, &mut taken, budget, Wait::TestMessageSent)?;

@@ -18,7 +18,7 @@ use registers::{lsr, offsets};
 impl<B: Backend> Uart16550<B> {
     /// Whether a character waits; else 10.
     pub fn ready_to_receive(&mut self) -> Result<(), ByteReceiveError>
-        ensures { AskedReady device self.old.backend self.new.backend (kept self.old) (kept self.new) (verdict receive_refusal result) }
+        ensures { AskedReady B.device self.old.backend self.new.backend (kept self.old) (kept self.new) (verdict receive_refusal result) }
     {
         if !contains(self.read_lsr(), lsr::DATA_READY) {
             return Err(ByteReceiveError);
@@ -28,7 +28,7 @@ impl<B: Backend> Uart16550<B> {
 
     /// The next character, where one waits; else 10.
     pub fn try_receive_byte(&mut self) -> Result<u8, ByteReceiveError>
-        ensures { ReceivedOne device self.old.backend self.new.backend (kept self.old) (kept self.new) (result_ok result) }
+        ensures { ReceivedOne B.device self.old.backend self.new.backend (kept self.old) (kept self.new) (result_ok result) }
     {
         self.ready_to_receive()?;
         Ok(self.backend.read(offsets::DATA))
@@ -37,7 +37,7 @@ impl<B: Backend> Uart16550<B> {
     /// Fills the buffer from its front with characters that wait, and answers how many there were.
     /// It stops where none waits; the places after that keep what they hold.
     pub fn receive_bytes(&mut self, buffer: &mut [u8]) -> usize
-        ensures { Received device self.old.backend self.new.backend (kept self.old) (kept self.new) buffer.old buffer.new result }
+        ensures { Received B.device self.old.backend self.new.backend (kept self.old) (kept self.new) buffer.old buffer.new result }
     {
         let mut count = 0;
         for place in buffer.iter_mut() {
@@ -53,7 +53,7 @@ impl<B: Backend> Uart16550<B> {
     /// Fills the whole buffer, waiting for characters. Where more than `budget` tries find none it
     /// refuses with 9, and the places that got none keep what they hold.
     pub fn receive_bytes_exact(&mut self, buffer: &mut [u8], budget: u16) -> Transferred
-        ensures { ReceivedExactly device self.old.backend self.new.backend (kept self.old) (kept self.new) budget Receive buffer.old buffer.new (verdict budget_refusal result.result) result.fruitless result.moved }
+        ensures { ReceivedExactly B.device self.old.backend self.new.backend (kept self.old) (kept self.new) budget Receive buffer.old buffer.new (verdict budget_refusal result.result) result.fruitless result.moved }
     {
         let mut polls = Budget::new(budget);
         let mut moved = 0;
@@ -77,7 +77,7 @@ impl<B: Backend> Uart16550<B> {
         requires none { moved.old ≡ 0 }
         ensures limit { budget.new.limit ≡ budget.old.limit }
         ensures spent { budget.old.fruitless ≤ budget.new.fruitless }
-        ensures filled { ReceivedExactly device self.old.backend self.new.backend (kept self.old) (kept self.new) (budget.old.limit - budget.old.fruitless) wait buffer.old buffer.new (verdict budget_refusal result) (budget.new.fruitless - budget.old.fruitless) moved.new }
+        ensures filled { ReceivedExactly B.device self.old.backend self.new.backend (kept self.old) (kept self.new) (budget.old.limit - budget.old.fruitless) wait buffer.old buffer.new (verdict budget_refusal result) (budget.new.fruitless - budget.old.fruitless) moved.new }
     {
         for place in buffer.iter_mut() {
             *place = self.receive_waiting(budget, wait)?;

@@ -16,7 +16,7 @@ use registers::{FIFO_SIZE, fcr, isr, lcr, lsr, mcr, offsets};
 impl<B: Backend> Uart16550<B> {
     /// Writes the divisor and the frame, with all interrupts off.
     pub(crate) fn set_line(&mut self, divisor: u16)
-        ensures accesses { Runs device (line_set_up self.old.config divisor) self.old.backend self.new.backend }
+        ensures accesses { Runs B.device (line_set_up self.old.config divisor) self.old.backend self.new.backend }
         ensures keeps { kept self.new ≡ kept self.old }
     {
         self.backend.write(offsets::LCR, 0);
@@ -36,7 +36,7 @@ impl<B: Backend> Uart16550<B> {
 
     /// Sets the FIFOs up, and looks whether they are on: a 16450 has none.
     pub(crate) fn configure_fcr(&mut self)
-        ensures accesses { Ran device (FifoSetUp self.old.config.fifo_trigger_level self.new.fifo_enabled) self.old.backend self.new.backend }
+        ensures accesses { Ran B.device (FifoSetUp self.old.config.fifo_trigger_level self.new.fifo_enabled) self.old.backend self.new.backend }
         ensures keeps { kept self.new ≡ with_fifo (kept self.old) self.new.fifo_enabled }
     {
         let level = self.config.fifo_trigger_level;
@@ -50,7 +50,7 @@ impl<B: Backend> Uart16550<B> {
     /// Reads stale characters, at most one more than a FIFO holds. Without FIFOs nothing else
     /// clears them.
     pub(crate) fn discard_received(&mut self)
-        ensures accesses { Ran device (Discarded 17) self.old.backend self.new.backend }
+        ensures accesses { Ran B.device (Discarded 17) self.old.backend self.new.backend }
         ensures keeps { kept self.new ≡ kept self.old }
     {
         for _ in 0..=FIFO_SIZE {
@@ -80,7 +80,7 @@ impl<B: Backend> Uart16550<B> {
 
     /// Clears what the status registers still show, and the saved bits.
     pub(crate) fn clear_status(&mut self)
-        ensures accesses { Ran device Cleared self.old.backend self.new.backend }
+        ensures accesses { Ran B.device Cleared self.old.backend self.new.backend }
         ensures keeps { kept self.new ≡ with_saved (kept self.old) 0 0 }
     {
         let _ = self.backend.read(offsets::LSR);
@@ -92,7 +92,7 @@ impl<B: Backend> Uart16550<B> {
 
     /// What `init` does between the presence check and its wait.
     pub(crate) fn prepare(&mut self, divisor: u16)
-        ensures accesses { Ran device (Opened self.old.config divisor self.new.fifo_enabled) self.old.backend self.new.backend }
+        ensures accesses { Ran B.device (Opened self.old.config divisor self.new.fifo_enabled) self.old.backend self.new.backend }
         ensures keeps { kept self.new ≡ with_fifo (kept self.old) self.new.fifo_enabled }
     {
         self.set_line(divisor);

@@ -18,7 +18,7 @@ const CHANGE_INDICATORS: u8 = 0x0F;
 impl<B: Backend> Uart16550<B> {
     /// Reads the line status. The read clears the error bits on the device, so they are saved.
     pub(crate) fn read_lsr(&mut self) -> u8
-        ensures accesses { Runs device (rd 5 result ∷ []) self.old.backend self.new.backend }
+        ensures accesses { Runs B.device (rd 5 result ∷ []) self.old.backend self.new.backend }
         ensures keeps { kept self.new ≡ noting (kept self.old) (result ∷ []) [] }
     {
         let lsr = self.backend.read(offsets::LSR);
@@ -28,7 +28,7 @@ impl<B: Backend> Uart16550<B> {
 
     /// Reads the modem status. The read clears the change bits on the device, so they are saved.
     pub(crate) fn read_msr(&mut self) -> u8
-        ensures accesses { Runs device (rd 6 result ∷ []) self.old.backend self.new.backend }
+        ensures accesses { Runs B.device (rd 6 result ∷ []) self.old.backend self.new.backend }
         ensures keeps { kept self.new ≡ noting (kept self.old) [] (result ∷ []) }
     {
         let msr = self.backend.read(offsets::MSR);

@@ -43,7 +43,7 @@ impl<B: Backend> Uart16550<B> {
     /// Whether a device is there: its scratch register keeps 0x42 and then 0x73. The byte that
     /// stood there is written back.
     pub fn check_present(&mut self) -> bool
-        ensures accesses { Ran device (Probe result) self.old.backend self.new.backend }
+        ensures accesses { Ran B.device (Probe result) self.old.backend self.new.backend }
         ensures keeps { kept self.new ≡ kept self.old }
     {
         // others may use the scratch register
@@ -90,7 +90,7 @@ impl<B: Backend> Uart16550<B> {
     /// Refuses with 3 to 7, touching nothing, where the configuration has no divisor; with 8 where
     /// the device is not present; with 9 where more than `budget` polls find the transmitter busy.
     pub fn init(&mut self, config: Config, budget: u16) -> Waited<Result<(), InitError>>
-        ensures { Ran device (Initialised config budget (kept self.old) (verdict init_refusal result.result) result.fruitless (kept self.new)) self.old.backend self.new.backend }
+        ensures { Ran B.device (Initialised config budget (kept self.old) (verdict init_refusal result.result) result.fruitless (kept self.new)) self.old.backend self.new.backend }
     {
         let mut polls = Budget::new(budget);
         let result = self.initialise(config, &mut polls);
@@ -103,7 +103,7 @@ impl<B: Backend> Uart16550<B> {
     /// `init`, with the budget that it may spend.
     fn initialise(&mut self, config: Config, budget: &mut Budget) -> Result<(), InitError>
         requires { budget.old.fruitless ≡ 0 }
-        ensures { Ran device (Initialised config budget.old.limit (kept self.old) (verdict init_refusal result) budget.new.fruitless (kept self.new)) self.old.backend self.new.backend }
+        ensures { Ran B.device (Initialised config budget.old.limit (kept self.old) (verdict init_refusal result) budget.new.fruitless (kept self.new)) self.old.backend self.new.backend }
     {
         let divisor = calc_divisor(
             config.frequency,
@@ -123,7 +123,7 @@ impl<B: Backend> Uart16550<B> {
 
     /// Whether the scratch register gives 0x42 and then 0x73 back.
     fn keeps_patterns(&mut self) -> bool
-        ensures accesses { Ran device (Patterns result) self.old.backend self.new.backend }
+        ensures accesses { Ran B.device (Patterns result) self.old.backend self.new.backend }
         ensures keeps { kept self.new ≡ kept self.old }
     {
         if !self.keeps(0x42) {
@@ -134,7 +134,7 @@ impl<B: Backend> Uart16550<B> {
 
     /// Whether the scratch register gives a pattern back.
     fn keeps(&mut self, pattern: u8) -> bool
-        ensures accesses { (b : ℕ) × (result ≡ (b == pattern)) × Runs device (wr 7 pattern ∷ rd 7 b ∷ []) self.old.backend self.new.backend }
+        ensures accesses { (b : ℕ) × (result ≡ (b == pattern)) × Runs B.device (wr 7 pattern ∷ rd 7 b ∷ []) self.old.backend self.new.backend }
         ensures keeps { kept self.new ≡ kept self.old }
     {
         self.backend.write(offsets::SPR, pattern);

@@ -1,6 +1,8 @@
 //! Tests of the driver over scripted devices: refusals access by access, buffers and budgets of all
 //! sizes, the loopback test for all word lengths, and the saved flags.
 
+#![tactic(auto)]
+
 #[cfg(test)]
 mod budgets;
 #[cfg(test)]

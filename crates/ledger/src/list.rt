@@ -16,7 +16,7 @@ use registers::error::InitError;
 
 /// Makes one call; its buffer is filled in place.
 pub fn perform<B: Backend>(uart: &mut Uart16550<B>, call: &mut Call) -> Answer
-    ensures { Did device uart.old.backend uart.new.backend (kept uart.old) (kept uart.new) call.old call.new result }
+    ensures { Did B.device uart.old.backend uart.new.backend (kept uart.old) (kept uart.new) call.old call.new result }
 {
     match call {
         Call::TryReceive => Answer::Byte(uart.try_receive_byte()),

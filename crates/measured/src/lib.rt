@@ -1,6 +1,8 @@
 //! Runs of the driver over small devices, exported for a program that measures them beside the
 //! Rust's driver (tools/side_by_side).
 
+#![tactic(auto)]
+
 mod runs;
 mod scripted;
 mod seen;

@@ -1,8 +1,8 @@
 -- Masks and shifts, as a division into the bits above a field, the field, and the bits below it.
-use Rattle.std.proofs.Common.{◌≡◌, ℕ, zero, ◌+◌, ◌-◌, ◌*◌, ◌/◌, ◌%◌, ◌^◌, ◌<◌, ◌≤◌, sym, refl, ap, ◌∙◌, subst, ap₂, add_assoc, mod-eq_of_lt, mul_assoc, add-mul, add_comm, zero-add, zero-mul, arith}
+use Rattle.std.proofs.Common.{◌≡◌, ℕ, ◌+◌, ◌-◌, ◌*◌, ◌/◌, ◌%◌, ◌^◌, ◌<◌, ◌≤◌, sym, ap, ◌∙◌, subst, ap₂, mod-eq_of_lt, mul_assoc, add-mul, add_comm, arith}
 use lib.Bits.{bit_and, bit_or, and_block, or_block, and_mask, or_zero_r, or_shifted_r}
 use Rattle.std.proofs.lemmas.Nat.{pow-add, pow_pos, shr_split, mod-pow-add, mod_low, shr_high, shr_below, shl_below, mod_below, mul-le}
-use Rattle.registers.specs.Fields.{field_at, FieldSet}
+use Rattle.registers.specs.Fields.{FieldSet}
 
 less_one : (n m : ℕ) → 0 < n → (n - 1) * m + m ≡ n * m
 less_one n m h =

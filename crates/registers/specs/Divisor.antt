@@ -1,5 +1,5 @@
 -- The divisor formula of the datasheet: 16 × (prescaler + 1) × rate × divisor = frequency.
-use Rattle.std.specs.Prelude.{◌≡◌, ℕ, ◌+◌, ◌*◌, ◌<◌, ◌≤◌, List, [], ◌∷◌, Some, None, Option, ◌≢◌}
+use Rattle.std.specs.Prelude.{◌≡◌, ℕ, ◌+◌, ◌*◌, ◌<◌, ◌≤◌, [], ◌∷◌, Some, None, Option, ◌≢◌}
 use Rattle.registers.specs.Refusal.{Refusal, refusal, amount, optional}
 
 -- the prescaler in the formula: 0 where there is none

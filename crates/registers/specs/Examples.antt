@@ -1,5 +1,5 @@
 -- Worked examples of the divisor formula, at the usual clock of 1,843,200 Hz.
-use Rattle.std.specs.Prelude.{ℕ, [], ◌∷◌, Some, None}
+use Rattle.std.specs.Prelude.{[], ◌∷◌, Some, None}
 use Rattle.registers.specs.Refusal.{refusal, amount, optional}
 use Rattle.registers.specs.Divisor.{DivisorOf, NoDivisor}
 use Rattle.registers.specs.Rate.{NoRate}

@@ -1,5 +1,5 @@
 -- The FIFO control register: bit 0 turns the FIFOs on, bits 1 and 2 empty them, bits 6 and 7 are the trigger level.
-use Rattle.std.specs.Prelude.{ℕ, ◌+◌, ◌*◌, Some, None, Option}
+use Rattle.std.specs.Prelude.{ℕ, Some, None, Option}
 use Rattle.registers.specs.declared.fcr.FifoTriggerLevel.{FifoTriggerLevel}
 use Rattle.registers.specs.declared.fcr.FifoTriggerLevel.TheVariants.{One, Four, Eight, Fourteen}
 

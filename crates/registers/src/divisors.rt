@@ -1,8 +1,9 @@
 //! The divisors that give an integer rate at the usual clock.
 
-ghost use Rattle.std.specs.Prelude.{◌≡◌, ◌==◌, ℕ};
+ghost use Rattle.std.specs.Prelude.{◌≡◌, ℕ, nat_eq};
 ghost use Rattle.registers.specs.Divisors.{divisor_value, DividesClock, Listed};
 ghost use Rattle.std.specs.Cmp.Rules.{comparing};
+ghost use Rattle.std.specs.Ordering.{on};
 ghost use Rattle.std.proofs.Common.{rules};
 ghost use Rattle.std.specs.Cmp as Keys;
 
@@ -120,7 +121,7 @@ impl Divisor {
 }
 
 impl PartialEq for Divisor {
-    ghost eq = { λ a b. divisor_value a == divisor_value b };
+    ghost eq = { on divisor_value nat_eq };
 
     ghost laws = { Keys.partial_equiv_from_equiv (Prim.search (comparing, rules)) };
 

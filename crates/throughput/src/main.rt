@@ -5,6 +5,8 @@
 //! and as many received. At most 16 wait at a time, so none is lost. A checksum is the sum of
 //! p × byte; over one message that is 156,260,495,800, and over a hundred 100 times as much.
 
+#![tactic(auto)]
+
 mod checksum;
 mod message;
 mod runs;

@@ -1,7 +1,7 @@
-use Rattle.std.proofs.Common.{◌≡◌, ℕ, ◌+◌, ◌-◌, ◌/◌, ◌<◌, ◌≤◌, min, max, sym, refl, ap, ◌∙◌, subst, ap₂, arith}
+use Rattle.std.proofs.Common.{◌≡◌, ℕ, ◌+◌, ◌-◌, ◌/◌, ◌≤◌, min, max, ap, ◌∙◌, subst, ap₂, arith}
 use lib.Bits.{bit_and, bit_or, bit_xor, and_le_r, or_lt}
 use Rattle.registers.specs.Fields.{bit}
-use Rattle.registers.specs.Modem.{changed, LineChanges}
+use Rattle.registers.specs.Modem.{changed}
 use Rattle.registers.proofs.Bits.{bit_of_or, bit_of_and, bit_of_xor, bit_of_shr, bit_le}
 use Rattle.registers.proofs.msr.modem_line_changes.Goals as goal
 
