@@ -1,9 +1,8 @@
 -- Attempts to send, one after the other.
-use Rattle.std.proofs.Common.{◌≡◌, ℕ, zero, suc, ◌+◌, ◌-◌, ◌<◌, ◌≤◌, min, Bool, true, false, cond, eqb, List, [], ◌∷◌, ◌++◌, length, take, drop, sym, refl, ap, ◌∙◌, subst, ⊎_elim, append_assoc, append-nil, zero-add, arith, length-append, length-drop}
+use Rattle.std.proofs.Common.{◌≡◌, ℕ, zero, suc, ◌+◌, ◌-◌, ◌<◌, ◌≤◌, Bool, true, false, cond, eqb, List, [], ◌∷◌, ◌++◌, length, take, drop, sym, refl, ap, ◌∙◌, subst, append_assoc, zero-add, arith, length-append, length-drop}
 use Rattle.std.proofs.lemmas.List.{drop-drop, take_all}
-use Rattle.std.proofs.lemmas.Bool.{cases_eq, eq-eqb, ne_eqb}
-use Rattle.backends.specs.declared.access.Access.{Access}
-use Rattle.backends.specs.Device.{Device, Runs}
+use Rattle.std.proofs.lemmas.Bool.{ne_eqb}
+use Rattle.backends.specs.Device.{Device}
 use Rattle.driver.specs.Kept.{Kept}
 use Rattle.driver.specs.Traces.{noting}
 use Rattle.driver.specs.Sends.{Attempt, attempts, asks, writes_of, taken, line_statuses, modem_status, modem_statuses, line_status, refusals, Attempted, wrote, refused, Attempts, Made, Sent}

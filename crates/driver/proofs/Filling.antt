@@ -1,11 +1,11 @@
 -- Filling a buffer, character by character.
-use Rattle.std.proofs.Common.{◌≡◌, ℕ, ◌+◌, ◌-◌, ◌<◌, ◌≤◌, List, [], ◌∷◌, ◌++◌, length, set, Some, None, Option, sym, refl, ap, ◌∙◌, subst, append_assoc, append-nil, arith, length-append}
+use Rattle.std.proofs.Common.{◌≡◌, ℕ, ◌+◌, ◌-◌, ◌<◌, ◌≤◌, List, [], ◌∷◌, ◌++◌, length, set, Some, None, Option, sym, ap, ◌∙◌, append_assoc, append-nil, arith}
 use Rattle.std.proofs.lemmas.List.{length_push}
 use Rattle.registers.specs.declared.error.Wait.{Wait}
-use Rattle.registers.specs.Refusal.{Refusal, refusal, during}
+use Rattle.registers.specs.Refusal.{Refusal}
 use Rattle.backends.specs.Device.{Device}
 use Rattle.driver.specs.Kept.{Kept}
-use Rattle.driver.specs.Receives.{Try, took, missed, got, misses, filled, one_try, Made, Fills, full, short, Received, ReceivedOne, FillsExactly, no_room, all, cut, ReceivedExactly, WaitsFor, came, late}
+use Rattle.driver.specs.Receives.{Try, took, missed, got, misses, filled, Made, short, Received, ReceivedOne, FillsExactly, all, cut, WaitsFor, came, late}
 use Rattle.driver.proofs.Tries.{made_append, got_append, misses_append, filled_more}
 
 -- a missed try adds no byte

@@ -1,11 +1,10 @@
 -- The steps of `init`, put together.
-use Rattle.std.proofs.Common.{◌≡◌, ℕ, ◌+◌, ◌≤◌, Bool, true, false, List, [], ◌∷◌, ◌++◌, length, Some, None, sym, refl, ap, ◌∙◌, subst, zero-add, arith}
+use Rattle.std.proofs.Common.{◌≡◌, ℕ, ◌+◌, ◌≤◌, Bool, true, false, [], ◌∷◌, ◌++◌, length, Some, None, sym, refl, ap, ◌∙◌, subst, arith}
 use Rattle.registers.specs.declared.config.Config.{Config}
 use Rattle.registers.specs.declared.error.Wait.TheVariants.{Transmitter}
 use Rattle.registers.specs.Config.{rate}
 use Rattle.registers.specs.Divisor.{NoDivisor}
 use Rattle.registers.specs.Refusal.{Refusal, refusal, during}
-use Rattle.backends.specs.declared.access.Access.{Access}
 use Rattle.backends.specs.Device.{Device, Runs, rd, wr}
 use Rattle.driver.specs.Kept.{Kept, with_config, with_fifo, with_saved}
 use Rattle.driver.specs.Traces.{Ran, Probe, FifoSetUp, Discarded, line_set_up, Opened, opened, DivisorFor, Cleared, polls, noting, StayedBusy, SeenEmpty, Initialised, no_divisor, absent, given_up, done}

@@ -1,16 +1,15 @@
 -- The steps of the loopback test, put together.
-use Rattle.std.proofs.Common.{◌≡◌, ℕ, ◌+◌, ◌-◌, ◌<◌, ◌≤◌, Bool, true, false, List, [], ◌∷◌, ◌++◌, length, get_or, set, Some, None, Option, sym, refl, ap, ◌∙◌, subst, zero-add, arith}
+use Rattle.std.proofs.Common.{◌≡◌, ℕ, ◌+◌, ◌-◌, ◌<◌, ◌≤◌, Bool, false, List, [], ◌∷◌, ◌++◌, length, get_or, set, Some, None, Option, sym, refl, ap, ◌∙◌, subst, arith}
 use lib.Bits.{bit_or}
 use Rattle.std.proofs.lemmas.List.{length_push}
 use Rattle.registers.specs.declared.error.Wait.TheVariants.{Transmitter}
 use Rattle.registers.specs.Refusal.{Refusal, refusal, during}
-use Rattle.backends.specs.declared.access.Access.{Access}
 use Rattle.backends.specs.Device.{Device, Runs, rd, wr}
 use Rattle.driver.specs.Kept.{Kept, with_fifo, with_saved}
 use Rattle.driver.specs.Traces.{Ran, FifoSetUp, polls, noting, StayedBusy, SeenEmpty}
 use Rattle.driver.specs.Getters.{Looked}
 use Rattle.driver.specs.Receives.{filled}
-use Rattle.driver.specs.Loopback.{Part, accesses, lines_of, modems_of, wasted, back, masked, data_mask, test_message, settings, Drains, ByteTested, Echoed, Singly, next, MessageEchoed, singly, singly_cut, MessageTested, cut_off, message_back, other_message, Looped, in_drain, in_byte, in_message, restores, LoopTested, stayed_busy, looped, Done, InLoop, Left}
+use Rattle.driver.specs.Loopback.{Part, accesses, lines_of, modems_of, wasted, back, masked, data_mask, test_message, settings, Drains, ByteTested, Echoed, Singly, next, MessageEchoed, singly, singly_cut, MessageTested, message_back, other_message, Looped, in_byte, in_message, restores, LoopTested, stayed_busy, looped, Done, InLoop, Left}
 use Rattle.driver.proofs.Runs.{runs_append}
 use Rattle.driver.proofs.Tries.{filled_more}
 use Rattle.driver.proofs.Looping.{back_append, done_then, done_as, echoed_length, filled_whole, not_none}

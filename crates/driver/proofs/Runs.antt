@@ -1,8 +1,7 @@
 -- Runs of accesses, one after the other.
-use Rattle.std.proofs.Common.{◌≡◌, ℕ, List, [], ◌∷◌, ◌++◌, sym, refl, subst}
+use Rattle.std.proofs.Common.{◌≡◌, ℕ, List, [], ◌∷◌, ◌++◌, sym, subst}
 use Rattle.backends.specs.declared.access.Access.{Access}
 use Rattle.backends.specs.Device.{Device, Runs, rd, wr}
-use Rattle.driver.specs.Traces.{Ran}
 
 module _ {S : Type 0} (d : Device S) where
   -- one run, and then another from where it ended

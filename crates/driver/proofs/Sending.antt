@@ -1,13 +1,12 @@
 -- Attempts to send, put together.
-use Rattle.std.proofs.Common.{◌≡◌, ℕ, suc, ◌+◌, ◌-◌, ◌<◌, ◌≤◌, min, Bool, true, false, cond, List, [], ◌∷◌, ◌++◌, length, take, drop, Some, None, Option, sym, refl, ap, ◌∙◌, subst, ⊎_elim, append_assoc, append-nil, add_assoc, zero-add, arith, length-append, length-take}
+use Rattle.std.proofs.Common.{◌≡◌, ℕ, ◌-◌, ◌<◌, ◌≤◌, min, List, [], ◌∷◌, ◌++◌, length, take, Some, None, Option, sym, refl, ap, ◌∙◌, subst, ⊎_elim, append-nil, arith, length-take}
 use Rattle.std.proofs.lemmas.List.{take_all}
 use Rattle.std.proofs.lemmas.Bool.{cases_lt}
 use Rattle.registers.specs.Refusal.{Refusal}
-use Rattle.backends.specs.declared.access.Access.{Access}
 use Rattle.backends.specs.Device.{Device, Runs, rd, wr}
 use Rattle.driver.specs.Kept.{Kept}
 use Rattle.driver.specs.Traces.{noting}
-use Rattle.driver.specs.Sends.{Question, status, control, lines, asks, line_status, modem_status, Answers, Attempt, attempts, taken, writes_of, line_statuses, modem_statuses, Made, AskedToSend, Sent, burst, refused, wrote}
+use Rattle.driver.specs.Sends.{lines, asks, Answers, writes_of, AskedToSend, Sent, burst, refused, wrote}
 use Rattle.driver.proofs.Runs.{runs_append}
 use Rattle.driver.proofs.Tries.{noting_append}
 

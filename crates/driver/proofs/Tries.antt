@@ -1,12 +1,12 @@
 -- Tries to receive, one after the other.
-use Rattle.std.proofs.Common.{◌≡◌, ℕ, suc, ◌+◌, ◌<◌, true, false, List, [], ◌∷◌, ◌++◌, length, drop, set, Some, None, Option, sym, refl, ap, ◌∙◌, subst, append-nil, zero-add, arith, length-append}
+use Rattle.std.proofs.Common.{◌≡◌, ℕ, ◌+◌, ◌<◌, List, [], ◌∷◌, ◌++◌, length, set, sym, refl, ap, ◌∙◌, zero-add, arith}
 use lib.Bits.{bit_and, bit_or}
 use Rattle.registers.specs.Flags.{line_errors, line_changes}
-use Rattle.backends.specs.Device.{Device, Runs, rd}
+use Rattle.backends.specs.Device.{Device, rd}
 use Rattle.registers.specs.Offsets.{at_data, at_lsr}
 use Rattle.driver.specs.Kept.{Kept, with_saved}
 use Rattle.driver.specs.Traces.{joined, noting}
-use Rattle.driver.specs.Receives.{Try, took, missed, Sound, tries, got, statuses, misses, filled, one_try, Made}
+use Rattle.driver.specs.Receives.{Try, took, missed, Sound, tries, got, statuses, misses, filled, Made}
 use Rattle.driver.proofs.Runs.{runs_append}
 
 -- bits saved from some reads, and then from others

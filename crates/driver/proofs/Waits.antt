@@ -1,5 +1,5 @@
 -- Waits for the transmitter: one poll more.
-use Rattle.std.proofs.Common.{◌≡◌, ℕ, ◌+◌, true, false, List, [], ◌∷◌, ◌++◌, length, sym, refl, ap, ◌∙◌, subst, arith}
+use Rattle.std.proofs.Common.{◌≡◌, ℕ, ◌+◌, true, false, List, [], ◌∷◌, ◌++◌, sym, refl, ap, ◌∙◌, arith}
 use lib.Bits.{bit_and, bit_or}
 use Rattle.std.proofs.lemmas.List.{length_push}
 use Rattle.registers.specs.Flags.{contains, line_errors}

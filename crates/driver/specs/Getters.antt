@@ -1,6 +1,5 @@
 -- Looking at registers, and switching interrupts.
-use Rattle.std.specs.Prelude.{◌≡◌, ℕ, ◌-◌, cond, List, [], ◌∷◌, Some, None, Option, bit_or}
-use Rattle.std.specs.Int.Bits.{bit_and}
+use Rattle.std.specs.Prelude.{◌≡◌, ℕ, cond, List, [], ◌∷◌, Some, None, Option, bit_or}
 use Rattle.registers.specs.declared.config.Config.{Config}
 use Rattle.registers.specs.declared.dump.ConfigRegisterDump.{ConfigRegisterDump}
 use Rattle.registers.specs.Flags.{contains, line_errors, line_changes, divisor_access, data_set_ready, clear_to_send}

@@ -95,7 +95,7 @@ impl<B: Backend> Uart16550<B> {
         requires { budget.old.fruitless ≤ budget.old.limit }
         ensures limit { budget.new.limit ≡ budget.old.limit }
         ensures waited { (ts : List Try) × WaitsFor (budget.old.limit - budget.old.fruitless) wait (verdict budget_refusal result) ts (got_by result)
-            × Made device self.old.backend self.new.backend (kept self.old) (kept self.new) ts
+            × Made B.device self.old.backend self.new.backend (kept self.old) (kept self.new) ts
             × (budget.new.fruitless ≡ budget.old.fruitless + misses ts) }
     {
         loop {

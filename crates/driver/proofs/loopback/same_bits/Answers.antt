@@ -1,4 +1,4 @@
-use Rattle.std.proofs.Common.{◌≡◌, sym, refl, ap, ◌∙◌, arith}
+use Rattle.std.proofs.Common.{arith}
 use Rattle.driver.proofs.Looping.{same_more, differ, same_whole}
 use Rattle.driver.proofs.loopback.same_bits.Goals as goal
 

@@ -1,4 +1,4 @@
-use Rattle.std.proofs.Common.{◌≡◌, ℕ, Bool, false, List, [], ◌∷◌, Some, None, Option, sym, refl, subst, rules}
+use Rattle.std.proofs.Common.{◌≡◌, ℕ, Bool, false, [], ◌∷◌, Some, None, Option, sym, refl, subst, rules}
 use Rattle.registers.specs.declared.fcr.FifoTriggerLevel.{FifoTriggerLevel}
 use Rattle.registers.specs.Fifo.{fifo_control}
 use Rattle.registers.specs.Flags.{contains}
@@ -19,6 +19,6 @@ returns-in-None g c =
 
 pub returns-in-Some : goal.returns-in-Some
 returns-in-Some g c = record {
-  accesses = (_, with_level _ c.fifo_control.result _ c.read.result _ c.in-Some.is c.fifo_control.ensures c.fifo-enabled-self.ensures, search rules);
+  accesses = (_, with_level _ c.fifo_control.result _ c.read.result _ c.in-Some.is c.fifo_control.ensures c.fifo_enabled-self.ensures, search rules);
   keeps = refl;
 }

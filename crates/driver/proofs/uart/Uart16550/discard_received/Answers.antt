@@ -1,4 +1,4 @@
-use Rattle.std.proofs.Common.{◌≡◌, ℕ, ◌+◌, ◌-◌, List, [], ◌∷◌, ◌++◌, sym, refl, ap, subst, append_assoc, append-nil, add-zero, arith, rules}
+use Rattle.std.proofs.Common.{◌≡◌, ◌+◌, ◌-◌, [], ◌∷◌, ◌++◌, sym, refl, subst, append_assoc, append-nil, add-zero, arith}
 use Rattle.backends.specs.Device.{rd}
 use Rattle.driver.specs.Traces.{Discarded, all_read, none_left, one_read}
 use Rattle.driver.proofs.Runs.{runs_append, runs_read}

@@ -1,4 +1,4 @@
-use Rattle.std.proofs.Common.{◌≡◌, [], ◌∷◌, ◌++◌, sym, refl, ap, ◌∙◌, arith}
+use Rattle.std.proofs.Common.{[], ◌∷◌, ◌++◌, refl, arith}
 use Rattle.std.proofs.lemmas.Result.{err_from_is_err_and}
 use Rattle.driver.specs.Receives.{took, missed}
 use Rattle.driver.specs.Loopback.{drained, emptied, flooded}
@@ -18,17 +18,17 @@ loop-budget-preserved g c =
       made_append g.B.Backend.device _ _ _ _ _ _ i.0 _ i.1 q.made,
       m.0,
       omega (arith, m.1),
-      omega (arith, c.in-ok-spend.ensures.answer),
+      omega (arith, c.in_ok-spend.ensures.answer),
       omega arith,
     )
 
-pub returns-in-err-spend : goal.returns-in-err-spend
-returns-in-err-spend g c =
+pub returns-in_err-spend : goal.returns-in_err-spend
+returns-in_err-spend g c =
     let i = c.loop-budget.invariant in
     let q = c.in-Ok.ensures in
     let m = drain_more i.0 q.status c.in-Ok.field-0 i.2 in
-    let e = err_from_is_err_and c.from-residual.result c.from-residual.ensures.1 in
-    let b = c.in-err-spend.ensures.answer in
+    let e = err_from_is_err_and c.from_residual.result c.from_residual.ensures.1 in
+    let b = c.in_err-spend.ensures.answer in
     let us = i.0 ++ (took q.status c.in-Ok.field-0 ∷ []) in
     rw (e.1, e.2, b.0) (record {
       limit = omega arith;
@@ -41,7 +41,7 @@ returns-in-err-spend g c =
 pub returns : goal.returns
 returns g c =
     let i = c.loop-budget.invariant in
-    let q = c.in-default.ensures in
+    let q = c.in_default.ensures in
     let us = i.0 ++ (missed q.status ∷ []) in
     record {
       limit = omega arith;

@@ -1,12 +1,12 @@
-use Rattle.std.proofs.Common.{◌≡◌, sym, refl, ap, ◌∙◌, arith}
+use Rattle.std.proofs.Common.{refl, ◌∙◌, arith}
 use Rattle.std.proofs.lemmas.Result.{err_from_is_err_and}
 use Rattle.driver.proofs.Looping.{echo_cut, echo_whole, fills_within, sends_within}
 use Rattle.driver.proofs.uart.Uart16550.echo.Goals as goal
 
-pub returns-in-err-send-all : goal.returns-in-err-send-all
-returns-in-err-send-all g c =
-    let e = err_from_is_err_and c.from-residual.result c.from-residual.ensures.1 in
-    let q = c.in-err-send-all.ensures in
+pub returns-in_err-send_all : goal.returns-in_err-send_all
+returns-in_err-send_all g c =
+    let e = err_from_is_err_and c.from_residual.result c.from_residual.ensures.1 in
+    let q = c.in_err-send_all.ensures in
     rw (e.1, e.2) (record {
       limit = q.limit;
       room = tt;
@@ -15,13 +15,13 @@ returns-in-err-send-all g c =
 
 pub fill-requires : goal.fill-requires
 fill-requires g c =
-    let q = c.in-ok-send-all.ensures in
+    let q = c.in_ok-send_all.ensures in
     let w = sends_within _ _ _ c.args.budget.now.limit _ _ _ _ _ q.sent.sends q.sent.counted q.spent c.requires.room refl in
     record { room = omega (arith, w, q.limit); none = refl }
 
 pub returns : goal.returns
 returns g c =
-    let q = c.in-ok-send-all.ensures in
+    let q = c.in_ok-send_all.ensures in
     let r = c.fill.ensures in
     let w = sends_within _ _ _ c.args.budget.now.limit _ _ _ _ _ q.sent.sends q.sent.counted q.spent c.requires.room refl in
     record {

@@ -1,4 +1,4 @@
-use Rattle.std.proofs.Common.{◌≡◌, [], sym, refl, ap, ◌∙◌, arith}
+use Rattle.std.proofs.Common.{[], refl, arith}
 use Rattle.std.proofs.lemmas.Result.{err_from_is_err_and}
 use Rattle.driver.specs.Loopback.{at_once, start}
 use Rattle.driver.proofs.Looping.{done, done_as, moved_none}
@@ -11,16 +11,16 @@ returns-then-self g c = done_as g.B.Backend.device _ _ _ _ _ _ _ _ c.echo.ensure
 pub loop-i-init : goal.loop-i-init
 loop-i-init g c = (done g.B.Backend.device _ _ _ _ [] _ _ _ (moved_none g.B.Backend.device _ _) (start, refl, refl) (omega arith), c.requires, refl)
 
-pub returns-in-err-echo : goal.returns-in-err-echo
-returns-in-err-echo g c =
-    let e = err_from_is_err_and c.from-residual.result c.from-residual.ensures.1 in
+pub returns-in_err-echo : goal.returns-in_err-echo
+returns-in_err-echo g c =
+    let e = err_from_is_err_and c.from_residual.result c.from_residual.ensures.1 in
     let i = c.loop-i.invariant in
-    rw (e.1, e.2) (cut_singly g.B.Backend.device _ _ _ _ _ _ c.args.budget.now.limit _ _ _ _ c.loop-i.i _ _ i.0 _ _ _ (omega arith) c.if-self.false i.2 c.in-err-echo.ensures.echoed)
+    rw (e.1, e.2) (cut_singly g.B.Backend.device _ _ _ _ _ _ c.args.budget.now.limit _ _ _ _ c.loop-i.i _ _ i.0 _ _ _ (omega arith) c.if-self.false i.2 c.in_err-echo.ensures.echoed)
 
 pub loop-i-preserved : goal.loop-i-preserved
 loop-i-preserved g c =
     let i = c.loop-i.invariant in
-    let q = c.in-ok-echo.ensures in (
+    let q = c.in_ok-echo.ensures in (
       more_singly g.B.Backend.device _ _ _ _ _ _ c.args.budget.now.limit _ _ _ _ c.loop-i.i _ _ i.0 _ (omega arith) (omega arith) i.2 q.echoed,
       omega (arith, q.room, q.limit),
       omega (arith, q.limit),

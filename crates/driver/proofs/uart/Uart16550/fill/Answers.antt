@@ -1,4 +1,4 @@
-use Rattle.std.proofs.Common.{◌≡◌, [], ◌∷◌, ◌++◌, length, sym, refl, ap, ◌∙◌, arith}
+use Rattle.std.proofs.Common.{◌≡◌, [], ◌++◌, length, sym, refl, ◌∙◌, arith}
 use lib.Seq.{set-get_or}
 use Rattle.std.proofs.lemmas.Result.{err_from_is_err_and}
 use Rattle.driver.specs.Receives.{no_room}
@@ -12,10 +12,10 @@ loop-place-init g c = ([], no_tries g.B.Backend.device _ _, no_room refl, refl, 
 pub loop-place-preserved : goal.loop-place-preserved
 loop-place-preserved g c =
     let i = c.loop-place.invariant in
-    let w = c.in-ok-place.ensures.waited in
+    let w = c.in_ok-place.ensures.waited in
     let t = misses_append i.0 w.0 in
     let l = waited_in_time _ _ _ _ w.1 in
-    let p = place_more c.args.buffer.now c.loop-place.buffer i.0 w.0 c.loop-place.place-index c.in-ok-place.field-0 i.3 i.4 (waited_got _ _ _ _ _ w.1) (omega arith) in (
+    let p = place_more c.args.buffer.now c.loop-place.buffer i.0 w.0 c.loop-place.place-index c.in_ok-place.field-0 i.3 i.4 (waited_got _ _ _ _ _ w.1) (omega arith) in (
       i.0 ++ w.0,
       made_append g.B.Backend.device _ _ _ _ _ _ i.0 w.0 i.1 w.2,
       exactly_more _ _ _ _ i.0 w.0 _ (omega arith) i.3 (omega arith) w.1,
@@ -23,19 +23,19 @@ loop-place-preserved g c =
       p.1,
       omega arith,
       omega (arith, w.3),
-      omega (arith, w.3, c.in-ok-place.ensures.limit),
-      omega (arith, c.in-ok-place.ensures.limit),
+      omega (arith, w.3, c.in_ok-place.ensures.limit),
+      omega (arith, c.in_ok-place.ensures.limit),
     )
 
-pub returns-in-err-place : goal.returns-in-err-place
-returns-in-err-place g c =
+pub returns-in_err-place : goal.returns-in_err-place
+returns-in_err-place g c =
     let i = c.loop-place.invariant in
-    let e = err_from_is_err_and c.from-residual.result c.from-residual.ensures.1 in
-    let w = c.in-err-place.ensures.waited in
+    let e = err_from_is_err_and c.from_residual.result c.from_residual.ensures.1 in
+    let w = c.in_err-place.ensures.waited in
     let t = misses_append i.0 w.0 in
     let p = place_same c.args.buffer.now c.loop-place.buffer i.0 w.0 c.loop-place.place-index 0 i.3 i.4 (waited_got _ _ _ _ _ w.1) in
     rw (e.1, e.2) (record {
-      limit = omega (arith, c.in-err-place.ensures.limit);
+      limit = omega (arith, c.in_err-place.ensures.limit);
       spent = omega (arith, w.3);
       filled = record {
         ts = i.0 ++ w.0;

@@ -1,7 +1,7 @@
-use Rattle.std.proofs.Common.{◌≡◌, ℕ, Bool, true, false, eqb, [], ◌∷◌, sym, refl, ap, ◌∙◌, subst, rules}
-use Rattle.std.proofs.lemmas.Bool.{eqb-true, eqb-false, cases_eq}
-use Rattle.backends.specs.Device.{Device, Runs, rd, wr}
-use Rattle.driver.specs.Traces.{Ran, Patterns, both_back, first_lost, second_lost}
+use Rattle.std.proofs.Common.{◌≡◌, ℕ, Bool, true, false, eqb, [], ◌∷◌, sym, ◌∙◌}
+use Rattle.std.proofs.lemmas.Bool.{eqb-true, eqb-false}
+use Rattle.backends.specs.Device.{rd, wr}
+use Rattle.driver.specs.Traces.{Patterns, both_back, first_lost, second_lost}
 use Rattle.driver.proofs.Runs.{runs_append}
 use Rattle.driver.proofs.uart.Uart16550.keeps_patterns.Goals as goal
 

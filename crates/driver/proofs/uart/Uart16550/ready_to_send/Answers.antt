@@ -1,4 +1,4 @@
-use Rattle.std.proofs.Common.{◌≡◌, [], ◌∷◌, sym, refl, ap, ◌∙◌}
+use Rattle.std.proofs.Common.{[], ◌∷◌, sym, ap, ◌∙◌}
 use Rattle.backends.specs.Device.{rd}
 use Rattle.driver.specs.Sends.{status, control, no_room, unchecked, looped, clear, not_clear}
 use Rattle.driver.proofs.Runs.{runs_append, runs_read}

@@ -1,4 +1,4 @@
-use Rattle.std.proofs.Common.{◌≡◌, [], sym, refl, ap, ◌∙◌, arith}
+use Rattle.std.proofs.Common.{[], refl, arith}
 use lib.Seq.{set-get_or}
 use Rattle.driver.specs.Receives.{full}
 use Rattle.driver.proofs.Tries.{no_tries}
@@ -8,10 +8,10 @@ use Rattle.driver.proofs.uart.Uart16550.receive_bytes.Goals as goal
 pub loop-place-init : goal.loop-place-init
 loop-place-init g c = ([], no_tries g.B.Backend.device _ _, refl, refl, refl, refl)
 
-pub returns-in-default : goal.returns-in-default
-returns-in-default g c =
+pub returns-in_default : goal.returns-in_default
+returns-in_default g c =
     let i = c.loop-place.invariant in
-    fill_short g.B.Backend.device _ _ _ _ _ _ i.0 c.loop-place.place-index i.1 i.3 i.4 _ _ _ _ c.in-default.ensures i.2 (omega arith) (set-get_or c.loop-place.buffer c.loop-place.place-index 0) i.5
+    fill_short g.B.Backend.device _ _ _ _ _ _ i.0 c.loop-place.place-index i.1 i.3 i.4 _ _ _ _ c.in_default.ensures i.2 (omega arith) (set-get_or c.loop-place.buffer c.loop-place.place-index 0) i.5
 
 pub loop-place-preserved : goal.loop-place-preserved
 loop-place-preserved g c =

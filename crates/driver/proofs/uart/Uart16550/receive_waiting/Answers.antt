@@ -1,4 +1,4 @@
-use Rattle.std.proofs.Common.{◌≡◌, [], ◌∷◌, ◌++◌, sym, refl, ap, ◌∙◌, arith}
+use Rattle.std.proofs.Common.{[], ◌∷◌, ◌++◌, refl, arith}
 use Rattle.std.proofs.lemmas.Result.{err_from_is_err_and}
 use Rattle.driver.specs.Receives.{took, missed, came, late}
 use Rattle.driver.proofs.Tries.{no_tries, made_append}
@@ -11,21 +11,21 @@ loop-byte-init g c = ([], no_tries g.B.Backend.device _ _, refl, omega arith, c.
 pub loop-byte-preserved : goal.loop-byte-preserved
 loop-byte-preserved g c =
     let i = c.loop-byte.invariant in
-    let q = c.in-default.ensures in (
+    let q = c.in_default.ensures in (
       i.0 ++ (missed q.status ∷ []),
       made_append g.B.Backend.device _ _ _ _ _ _ i.0 _ i.1 q.made,
       still_none i.0 q.status i.2,
       omega (arith, one_miss_more i.0 q.status),
-      omega (arith, c.in-ok-spend.ensures.answer),
+      omega (arith, c.in_ok-spend.ensures.answer),
       omega arith,
     )
 
-pub returns-in-err-spend : goal.returns-in-err-spend
-returns-in-err-spend g c =
+pub returns-in_err-spend : goal.returns-in_err-spend
+returns-in_err-spend g c =
     let i = c.loop-byte.invariant in
-    let q = c.in-default.ensures in
-    let e = err_from_is_err_and c.from-residual.result c.from-residual.ensures.1 in
-    let b = c.in-err-spend.ensures.answer in
+    let q = c.in_default.ensures in
+    let e = err_from_is_err_and c.from_residual.result c.from_residual.ensures.1 in
+    let b = c.in_err-spend.ensures.answer in
     rw (e.1, e.2, b.0) (record {
       limit = omega arith;
       waited = (

@@ -1,4 +1,4 @@
-use Rattle.std.proofs.Common.{◌≡◌, ℕ, ◌-◌, ◌<◌, [], ◌∷◌, ◌++◌, length, get_or, take, sym, refl, ap, ◌∙◌, subst, arith}
+use Rattle.std.proofs.Common.{◌-◌, [], ◌∷◌, get_or, take, sym, refl, subst, arith}
 use Rattle.std.proofs.lemmas.List.{take_more}
 use Rattle.std.proofs.lemmas.Bool.{eqb-true, eqb-false}
 use Rattle.backends.specs.Device.{Runs, wr}
@@ -7,13 +7,13 @@ use Rattle.driver.proofs.Runs.{runs_append, runs_write}
 use Rattle.driver.proofs.Sending.{writes_append, sent_nothing, sent_refused, sent_some}
 use Rattle.driver.proofs.uart.Uart16550.send_bytes.Goals as goal
 
-pub returns-then-is-empty : goal.returns-then-is-empty
-returns-then-is-empty g c = sent_nothing g.B.Backend.device _ _ _ _ _ (eqb-true _ _ (sym c.if-is-empty.ensures)) refl refl
+pub returns-then-is_empty : goal.returns-then-is_empty
+returns-then-is_empty g c = sent_nothing g.B.Backend.device _ _ _ _ _ (eqb-true _ _ (sym c.if-is_empty.ensures)) refl refl
 
-pub returns-in-default : goal.returns-in-default
-returns-in-default g c =
-    let e = eqb-false _ _ (sym c.if-is-empty.ensures) in
-    sent_refused g.B.Backend.device _ _ _ _ _ _ (omega arith) c.in-default.ensures
+pub returns-in_default : goal.returns-in_default
+returns-in_default g c =
+    let e = eqb-false _ _ (sym c.if-is_empty.ensures) in
+    sent_refused g.B.Backend.device _ _ _ _ _ _ (omega arith) c.in_default.ensures
 
 pub loop-byte-init : goal.loop-byte-init
 loop-byte-init g c = (refl, refl)
@@ -31,6 +31,6 @@ loop-byte-preserved g c =
 
 pub returns : goal.returns
 returns g c =
-    let e = eqb-false _ _ (sym c.if-is-empty.ensures) in
+    let e = eqb-false _ _ (sym c.if-is_empty.ensures) in
     sent_some g.B.Backend.device _ _ _ _ _ _ _ c.min-count.result c.loop-byte.byte-index c.burst.result (omega arith) c.in-Ok.ensures c.loop-byte.invariant.1
     c.burst.ensures c.min-count.ensures c.loop-byte-test.false c.loop-byte.invariant.0

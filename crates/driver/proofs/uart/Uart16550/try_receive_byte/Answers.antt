@@ -1,4 +1,4 @@
-use Rattle.std.proofs.Common.{◌≡◌, Bool, true, false, cond, [], ◌∷◌, Some, None, Option, sym, refl, ap, ◌∙◌, arith}
+use Rattle.std.proofs.Common.{◌≡◌, Bool, true, false, cond, [], ◌∷◌, Some, None, refl}
 use Rattle.std.proofs.lemmas.Result.{err_from_is_err_and}
 use Rattle.registers.specs.Refusal.{Refusal}
 use Rattle.backends.specs.Device.{rd}
@@ -16,7 +16,7 @@ hidden true x e = let z : ◌≡◌ {A = Bool} true false = cc in z
 pub returns : goal.returns
 returns g c =
     let d = g.B.Backend.device in
-    let p = c.in-ok-ready-to-receive.ensures in
+    let p = c.in_ok-ready_to_receive.ensures in
     record {
       status = p.status;
       made = record {
@@ -26,8 +26,8 @@ returns g c =
       };
     }
 
-pub returns-in-err-ready-to-receive : goal.returns-in-err-ready-to-receive
-returns-in-err-ready-to-receive g c =
-    let e = err_from_is_err_and c.from-residual.result c.from-residual.ensures.1 in
-    let p = c.in-err-ready-to-receive.ensures in
+pub returns-in_err-ready_to_receive : goal.returns-in_err-ready_to_receive
+returns-in_err-ready_to_receive g c =
+    let e = err_from_is_err_and c.from_residual.result c.from_residual.ensures.1 in
+    let p = c.in_err-ready_to_receive.ensures in
     rw e.1 (record { status = p.status; made = record { sound = (hidden _ _ p.answer, tt); ran = p.ran; keeps = p.keeps } })

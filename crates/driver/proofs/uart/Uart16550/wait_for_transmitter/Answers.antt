@@ -1,20 +1,20 @@
-use Rattle.std.proofs.Common.{◌≡◌, sym, refl, ap, ◌∙◌, arith}
+use Rattle.std.proofs.Common.{sym, ◌∙◌, arith}
 use Rattle.std.proofs.lemmas.Result.{err_from_is_err_and}
 use Rattle.driver.proofs.Waits.{still_busy, now_empty}
 use Rattle.driver.proofs.uart.Uart16550.wait_for_transmitter.Goals as goal
 
 pub loop-budget-preserved : goal.loop-budget-preserved
 loop-budget-preserved g c = (
-  omega (arith, c.in-ok-spend.ensures.answer),
+  omega (arith, c.in_ok-spend.ensures.answer),
   omega arith,
   still_busy g.B.Backend.device _ _ _ _ _ _ _ _ c.read_lsr.result c.loop-budget.invariant.2 c.read_lsr.ensures.accesses
       c.read_lsr.ensures.keeps (sym c.contains.ensures ∙ c.loop-budget-test.true) _ c.spend.ensures.counted,
 )
 
-pub returns-in-err-spend : goal.returns-in-err-spend
-returns-in-err-spend g c =
-    let p = err_from_is_err_and c.from-residual.result c.from-residual.ensures.1 in
-    let q = c.in-err-spend.ensures.answer in
+pub returns-in_err-spend : goal.returns-in_err-spend
+returns-in_err-spend g c =
+    let p = err_from_is_err_and c.from_residual.result c.from_residual.ensures.1 in
+    let q = c.in_err-spend.ensures.answer in
     rw (p.1, p.2) (record {
       limit = omega arith;
       answer = (
