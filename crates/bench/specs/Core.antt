@@ -4,7 +4,7 @@ use Rattle.registers.specs.Flags.{contains, fifo_enable, rx_fifo_reset, tx_fifo_
 use Rattle.backends.specs.declared.character.Character.{Character}
 use Rattle.backends.specs.Chip.{Fifos as Mode, is_on, capacity}
 use Rattle.backends.specs.Rules.{unmarked}
-use Rattle.bench.specs.declared.core.Core.{Core}
+use Rattle.bench.specs.declared.chip_core.Core.{Core}
 use Rattle.bench.specs.declared.receiver.Receiver.{Receiver}
 use Rattle.bench.specs.declared.transmitter.Transmitter.{Transmitter}
 use Rattle.bench.specs.declared.settings.Fifos.{Fifos}

@@ -8,7 +8,7 @@ use Rattle.backends.specs.declared.character.Character.{Character}
 use Rattle.backends.specs.declared.character.Counts.{Counts}
 use Rattle.backends.specs.Chip.{Fifos as Mode, is_on, capacity, absent, off, on}
 use Rattle.backends.specs.Rules.{first, overrun, one_more, unmarked}
-use Rattle.bench.specs.declared.core.Core.{Core}
+use Rattle.bench.specs.declared.chip_core.Core.{Core}
 use Rattle.bench.specs.declared.receiver.Receiver.{Receiver}
 use Rattle.bench.specs.declared.transmitter.Transmitter.{Transmitter}
 use Rattle.bench.specs.declared.settings.Fifos.{Fifos}

@@ -19,10 +19,4 @@ pub mod Bench
 pub mod Making
 pub mod Wired
 pub mod Plug
-pub mod Acts
-pub mod Reaches
-pub mod Sends
-pub mod Status
-pub mod Moves
-pub mod Single
-pub mod Carries
+pub mod Keeping

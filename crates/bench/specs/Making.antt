@@ -1,7 +1,7 @@
 -- A chip as it is made.
 use Rattle.std.specs.Prelude.{◌≡◌, ℕ, Bool, cond, Some, None, Option}
 use Rattle.backends.specs.declared.character.Counts.{Counts}
-use Rattle.bench.specs.declared.core.Core.{Core}
+use Rattle.bench.specs.declared.chip_core.Core.{Core}
 use Rattle.bench.specs.declared.modem.ModemLines.{ModemLines}
 use Rattle.bench.specs.declared.settings.Fifos.{Fifos}
 use Rattle.bench.specs.declared.settings.Fifos.TheVariants.{Absent, Off}

@@ -5,7 +5,7 @@ use Rattle.backends.specs.Chip.{ChipState, Receiver as RulesReceiver, Transmitte
 use Rattle.bench.specs.declared.receiver.Receiver.{Receiver}
 use Rattle.bench.specs.declared.transmitter.Transmitter.{Transmitter}
 use Rattle.bench.specs.declared.settings.Settings.{Settings}
-use Rattle.bench.specs.declared.core.Core.{Core}
+use Rattle.bench.specs.declared.chip_core.Core.{Core}
 use Rattle.bench.specs.Ring.{items}
 use Rattle.bench.specs.Receiver.{waiting}
 use Rattle.bench.specs.Settings.{mode}

@@ -1,6 +1,6 @@
 -- What the tape, the line and the pace do before an access acts.
 use Rattle.std.specs.Prelude.{ℕ, zero, suc, ◌≤◌, min, Bool, cond, ◌&&◌, vec_len, nat_lt}
-use Rattle.bench.specs.declared.core.Core.{Core}
+use Rattle.bench.specs.declared.chip_core.Core.{Core}
 use Rattle.bench.specs.declared.parts.Parts.{Parts}
 use Rattle.bench.specs.declared.tape.Tape.{Tape}
 use Rattle.bench.specs.declared.line.Line.{Line}

@@ -6,7 +6,7 @@ use Rattle.backends.specs.declared.character.Counts.{Counts}
 use Rattle.backends.specs.Chip.{capacity}
 use Rattle.bench.specs.declared.receiver.Receiver.{Receiver}
 use Rattle.bench.specs.declared.transmitter.Transmitter.{Transmitter}
-use Rattle.bench.specs.declared.core.Core.{Core}
+use Rattle.bench.specs.declared.chip_core.Core.{Core}
 use Rattle.bench.specs.Ring.{RingOk}
 use Rattle.bench.specs.Receiver.{waiting}
 use Rattle.bench.specs.Settings.{mode}

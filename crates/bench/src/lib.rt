@@ -3,7 +3,7 @@
 #![tactic(auto)]
 
 mod bench;
-mod core;
+mod chip_core;
 mod flag;
 mod line;
 mod modem;

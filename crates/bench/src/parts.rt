@@ -4,7 +4,7 @@ ghost use Rattle.std.specs.Prelude.{◌≡◌, ℕ, true};
 ghost use Rattle.bench.specs.Core.{answer};
 ghost use Rattle.bench.specs.Parts.{PartsSound, arriving, arrives, leaving, filled, passed_looping, passed_outside, ticked, parts_read, parts_written};
 
-use crate::core::Core;
+use crate::chip_core::Core;
 use crate::line::Line;
 use crate::pace::Pace;
 use crate::tape::Tape;

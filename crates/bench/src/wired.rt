@@ -4,7 +4,7 @@ ghost use Rattle.std.specs.Prelude.{◌≡◌, ℕ, true};
 ghost use Rattle.bench.specs.Core.{answer};
 ghost use Rattle.bench.specs.Wired.{WiredSound, carrying, carried, wired_ticked, wired_read, wired_written};
 
-use crate::core::Core;
+use crate::chip_core::Core;
 use crate::line::Line;
 use crate::receiver::unmarked;
 

@@ -6,7 +6,7 @@ ghost use Rattle.bench.specs.Line.{gone};
 ghost use Rattle.bench.specs.Making.{Made};
 
 use crate::bench::Bench;
-use crate::core::Core;
+use crate::chip_core::Core;
 use crate::line::Line;
 use crate::modem::ModemLines;
 use crate::pace::Pace;

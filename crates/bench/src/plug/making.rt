@@ -5,7 +5,7 @@ ghost use Rattle.backends.specs.Rules.{unmarked};
 ghost use Rattle.bench.specs.Making.{Made};
 ghost use Rattle.bench.specs.Plug.{plug_meaning};
 
-use crate::core::Core;
+use crate::chip_core::Core;
 use crate::line::Line;
 use crate::modem::ModemLines;
 use crate::plug::Plug;

@@ -22,5 +22,5 @@ pub returns : goal.returns
 returns c =
     let m = c.args.self.now in
     ap (λ n. record { fixed = m.fixed; changes = bit_or m.changes n })
-    (changes_are _ _ _ c.modem-line-changes.ensures
+    (changes_are _ _ _ c.modem_line_changes.ensures
     ∙ ap (λ n. line_changes n c.lines-after.result) c.lines-before.ensures ∙ ap (λ n. line_changes (lines m c.args.old) n) c.lines-after.ensures)

@@ -2,7 +2,7 @@ use Rattle.std.proofs.Common.{sym, ap, ◌∙◌, subst}
 use Rattle.bench.specs.Core.{Fits, answer, answered}
 use Rattle.bench.specs.Wired.{wired_with}
 use Rattle.bench.specs.declared.wired.Wired.{Wired}
-use Rattle.bench.specs.Carries.{wired_fits}
+use Rattle.bench.specs.Keeping.Carries.{wired_fits}
 use Rattle.bench.proofs.wired.Wired.read.Goals as goal
 
 pub read-requires : goal.read-requires

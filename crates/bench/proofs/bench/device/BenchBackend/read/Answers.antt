@@ -5,8 +5,8 @@ use Rattle.bench.specs.Parts.{PartsSound}
 use Rattle.bench.proofs.Ticked.{same_bench}
 use Rattle.bench.proofs.bench.device.BenchBackend.read.Goals as goal
 
-pub invariant-of-self : goal.invariant-of-self
-invariant-of-self c = (subst PartsSound (sym c.read.ensures.state) (parts_read_sound c.args.self.now.parts c.args.offset c.args.self.now.ok), tt)
+pub invariant_of-self : goal.invariant_of-self
+invariant_of-self c = record { ok = subst PartsSound (sym c.read.ensures.state) (parts_read_sound c.args.self.now.parts c.args.offset c.args.self.now.ok) }
 
 pub returns : goal.returns
 returns c =

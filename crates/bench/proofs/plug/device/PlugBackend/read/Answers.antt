@@ -1,11 +1,11 @@
 use Rattle.std.proofs.Common.{sym, subst, arith}
 use Rattle.std.proofs.lemmas.Bool.{lt-ltb}
 use Rattle.bench.specs.Wired.{WiredSound, wired_read_sound}
-use Rattle.bench.specs.Carries.{same_plug}
+use Rattle.bench.specs.Keeping.Carries.{same_plug}
 use Rattle.bench.proofs.plug.device.PlugBackend.read.Goals as goal
 
-pub invariant-of-self : goal.invariant-of-self
-invariant-of-self c = (subst WiredSound (sym c.read.ensures.state) (wired_read_sound c.args.self.now.wired c.args.offset c.args.self.now.ok), tt)
+pub invariant_of-self : goal.invariant_of-self
+invariant_of-self c = record { ok = subst WiredSound (sym c.read.ensures.state) (wired_read_sound c.args.self.now.wired c.args.offset c.args.self.now.ok) }
 
 pub returns : goal.returns
 returns c =

@@ -6,7 +6,7 @@ use Rattle.std.proofs.lemmas.Bool.{and_parts, ltb-true, ltb-false}
 use Rattle.registers.specs.Flags.{contains}
 use Rattle.backends.specs.declared.character.Character.{Character}
 use Rattle.backends.specs.Rules.{Status, some_wait, idle}
-use Rattle.bench.specs.declared.core.Core.{Core}
+use Rattle.bench.specs.declared.chip_core.Core.{Core}
 use Rattle.bench.specs.declared.ring.Ring.{Ring}
 use Rattle.bench.specs.Core.{status, status_byte, data_error}
 use Rattle.bench.specs.Items.{items_popped, length_items}

@@ -2,7 +2,7 @@
 use Rattle.std.specs.Prelude.{◌≡◌, ◌≤◌, false, length}
 use Rattle.std.proofs.Common.{arith, true≢false}
 use Rattle.backends.specs.Chip.{Fifos, absent, off, on, is_on, capacity}
-use Rattle.bench.specs.declared.core.Core.{Core}
+use Rattle.bench.specs.declared.chip_core.Core.{Core}
 use Rattle.bench.specs.Items.{length_items}
 use Rattle.bench.specs.Receiver.{blank, waiting}
 use Rattle.bench.specs.Settings.{mode}

@@ -6,7 +6,7 @@ use Rattle.std.proofs.lemmas.Bool.{ltb-true, and_parts, cond-true, cond-false}
 use Rattle.backends.specs.declared.character.Character.{Character}
 use Rattle.backends.specs.Chip.{ChipState, with_transmitter}
 use Rattle.backends.specs.Rules.{arrive, come_round, unmarked, LineMoved, LoopMoved, Moved}
-use Rattle.bench.specs.declared.core.Core.{Core}
+use Rattle.bench.specs.declared.chip_core.Core.{Core}
 use Rattle.bench.specs.declared.parts.Parts.{Parts}
 use Rattle.bench.specs.Bench.{parts_meaning}
 use Rattle.bench.specs.Core.{accepting, reaching, turned}
@@ -22,9 +22,9 @@ use Rattle.bench.specs.Sound.{Sound}
 use Rattle.bench.specs.Tape.{entry, left, came}
 use Rattle.bench.specs.Ticks.{arriving_more, arrives_sound, passed_outside_sound}
 use Rattle.bench.specs.Transmitter.{one_round, one_gone}
-use Rattle.bench.specs.Acts.{chip_path}
-use Rattle.bench.specs.Reaches.{reach_is}
-use Rattle.bench.specs.Sends.{gone_written, one_gone_is, one_round_is}
+use Rattle.bench.specs.Keeping.Acts.{chip_path}
+use Rattle.bench.specs.Keeping.Reaches.{reach_is}
+use Rattle.bench.specs.Keeping.Sends.{gone_written, one_gone_is, one_round_is}
 
 -- Loop mode
 

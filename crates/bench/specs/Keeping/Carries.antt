@@ -18,10 +18,10 @@ use Rattle.bench.specs.Ring.{item_at}
 use Rattle.bench.specs.Settings.{mode, loops}
 use Rattle.bench.specs.Transmitter.{one_gone}
 use Rattle.bench.specs.Wired.{WiredSound, wired_with, carrying, carried, wired_ticked, wired_ticked_sound}
-use Rattle.bench.specs.Acts.{chip_path}
-use Rattle.bench.specs.Moves.{turned_is}
-use Rattle.bench.specs.Reaches.{reach_is}
-use Rattle.bench.specs.Sends.{gone_written, one_gone_is}
+use Rattle.bench.specs.Keeping.Acts.{chip_path}
+use Rattle.bench.specs.Keeping.Moves.{turned_is}
+use Rattle.bench.specs.Keeping.Reaches.{reach_is}
+use Rattle.bench.specs.Keeping.Sends.{gone_written, one_gone_is}
 
 -- an access finds a chip that can take it
 pub wired_fits : (w : Wired) → WiredSound w → Fits (wired_ticked w).core

@@ -5,7 +5,7 @@ use Rattle.registers.specs.Flags.{contains, fifo_enable, rx_fifo_reset, tx_fifo_
 use Rattle.backends.specs.declared.character.Character.{Character}
 use Rattle.backends.specs.Chip.{ChipState, Receiver as RulesReceiver, Transmitter as RulesTransmitter, Setup, is_on, capacity, with_transmitter}
 use Rattle.backends.specs.Rules.{Reads, Writes, Takes, Status, ShowsFifos, struck as rules_struck, emptied as rules_emptied, unlooped as rules_unlooped, controlled as rules_controlled, switched as rules_switched, reset as rules_reset}
-use Rattle.bench.specs.declared.core.Core.{Core}
+use Rattle.bench.specs.declared.chip_core.Core.{Core}
 use Rattle.bench.specs.declared.settings.Fifos.{Fifos}
 use Rattle.bench.specs.declared.settings.Fifos.TheVariants.{Absent, Off, On}
 use Rattle.bench.specs.Core.{answer, answered, controlled, switched, reset, written, with_settings, with_transmitter as chip_with}
@@ -15,9 +15,9 @@ use Rattle.bench.specs.Receiver.{waiting, emptied}
 use Rattle.bench.specs.Settings.{mode, loops, with_dll, with_dlm, with_ier}
 use Rattle.bench.specs.Sound.{TransmitterSound}
 use Rattle.bench.specs.Transmitter.{struck, unlooped, sent}
-use Rattle.bench.specs.Reaches.{takes_is}
-use Rattle.bench.specs.Sends.{sent_is, struck_is}
-use Rattle.bench.specs.Status.{status_is}
+use Rattle.bench.specs.Keeping.Reaches.{takes_is}
+use Rattle.bench.specs.Keeping.Sends.{sent_is, struck_is}
+use Rattle.bench.specs.Keeping.Status.{status_is}
 
 shows_is : (f : Fifos) → ShowsFifos (is_on (mode f)) (cond (is_on (mode f)) 0xC1 0x01)
 unfolding contains

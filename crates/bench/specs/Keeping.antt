@@ -1,0 +1,10 @@
+-- Why the simulated chips keep the rules: proofs, which stand here since the law of `Chip` is given with an `impl` and
+-- cites them. There is nothing to believe in them.
+pub mod Reaches
+pub mod Sends
+pub mod Status
+pub mod Acts
+pub mod Moves
+pub mod Carries
+pub mod Single
+pub mod Chips
