@@ -1,5 +1,5 @@
 -- Each call of a list keeps the ledger.
-use Rattle.std.proofs.Common.{◌≡◌, ℕ, ◌+◌, ◌<◌, ◌≤◌, Bool, true, false, cond, List, [], ◌∷◌, ◌++◌, length, take, drop, is_ok, Some, None, Ok, Err, vec_items, Option, Result, sym, refl, ap, ◌∙◌, subst, append-nil, arith}
+use Rattle.std.proofs.Common.{◌≡◌, ℕ, Bool, true, false, cond, List, [], ◌∷◌, ◌++◌, length, take, drop, is_ok, Ok, Err, vec_items, Result, sym, refl, ap, ◌∙◌, subst, append-nil}
 use lib.Bits.{bit_or, bit_and}
 use Rattle.std.specs.Result.{result_ok}
 use Rattle.registers.specs.declared.error.ByteReceiveError.{ByteReceiveError}
@@ -22,7 +22,7 @@ use Rattle.ledger.specs.declared.call.Call.TheVariants as call
 use Rattle.ledger.specs.declared.call.Answer.TheVariants as answer
 use Rattle.ledger.specs.Did.{Did, try_receive, receive, receive_exact, ready_to_receive, try_send, send, send_exact, ready_to_send, check_connected, check_present, enable, disable, ier, isr, lcr, mcr, lsr, msr, spr, dll_dlm, dump}
 use Rattle.ledger.specs.Law.{AnswerShows, is_lsr, ShowsErrors}
-use Rattle.ledger.specs.Reported.{handed_by, taken_by, moved, received}
+use Rattle.ledger.specs.Reported.{handed_by, taken_by}
 use Rattle.ledger.proofs.Steps as steps
 use Rattle.ledger.proofs.Steps.{At}
 use Rattle.ledger.proofs.Pieces as pieces

@@ -1,10 +1,10 @@
 -- The ledger that a list of calls keeps: what was handed out and taken so far, and what the chip and the driver hold.
-use Rattle.std.proofs.Common.{◌≡◌, ℕ, ◌+◌, ◌-◌, ◌<◌, ◌≤◌, Bool, true, false, cond, ltb, List, [], ◌∷◌, ◌++◌, length, sym, refl, ap, ◌∙◌, subst, append_assoc, arith, length-append}
+use Rattle.std.proofs.Common.{◌≡◌, ℕ, ◌+◌, ◌-◌, ◌<◌, ◌≤◌, true, false, cond, List, [], ◌∷◌, ◌++◌, length, sym, ap, ◌∙◌, subst, append_assoc, arith, length-append}
 use Rattle.std.proofs.lemmas.Bool.{lt-ltb}
-use Rattle.registers.specs.Flags.{contains, loop_back, divisor_access}
+use Rattle.registers.specs.Flags.{contains, loop_back}
 use Rattle.backends.specs.declared.character.Character.{Character}
 use Rattle.backends.specs.declared.character.Counts.{Counts}
-use Rattle.backends.specs.Chip.{ChipState, Receiver, Transmitter, Setup, Fifos, is_on, capacity, looping, with_receiver, with_transmitter, with_setup}
+use Rattle.backends.specs.Chip.{ChipState, Receiver, Transmitter, Setup, is_on, with_receiver, with_transmitter, with_setup}
 use Rattle.backends.specs.Rules.{arrive, Moved, LineMoved, noticed, next_first, sent, some_wait, Takes, with_lcr, Status}
 use Rattle.driver.specs.Kept.{Kept}
 use Rattle.driver.specs.Traces.{noting}

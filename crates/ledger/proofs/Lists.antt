@@ -1,5 +1,5 @@
 -- Lists of calls.
-use Rattle.std.proofs.Common.{◌≡◌, ℕ, Bool, true, false, List, [], ◌∷◌, ◌++◌, sym, refl, ap, ◌∙◌, subst, append_assoc, append-nil}
+use Rattle.std.proofs.Common.{◌≡◌, ℕ, Bool, true, false, List, [], ◌∷◌, ◌++◌, sym, refl, subst, append_assoc, append-nil}
 use Rattle.registers.specs.Flags.{contains, divisor_access}
 use Rattle.backends.specs.declared.character.Counts.{Counts}
 use Rattle.backends.specs.Chip.{ChipState, Setup}
@@ -13,7 +13,7 @@ use Rattle.ledger.specs.Did.{Did}
 use Rattle.ledger.specs.Law.{Played, ErrorsShown, AnswerShows, is_lsr}
 use Rattle.ledger.specs.Reported.{handed, taken, handed_by, taken_by}
 use Rattle.ledger.proofs.Steps.{At}
-use Rattle.ledger.proofs.Calls.{KeptBy, kept_by, ShowsNow}
+use Rattle.ledger.proofs.Calls.{kept_by, ShowsNow}
 
 -- one call more
 pub played_push : {S : Type 0} (d : Device S) (meaning : S → ChipState) (s t u : S) (k l n : Kept) (es : List Entry) (ms : List ChipState) (c : Call) (e : Entry)

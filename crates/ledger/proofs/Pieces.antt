@@ -1,22 +1,21 @@
 -- The pieces that calls are made of, and the ledger.
-use Rattle.std.proofs.Common.{◌≡◌, ℕ, ◌+◌, ◌<◌, ◌≤◌, Bool, true, false, cond, ◌||◌, eqb, List, [], ◌∷◌, ◌++◌, length, take, drop, Some, None, Option, sym, refl, ap, ◌∙◌, subst, append_assoc, append-nil, arith, length-take}
+use Rattle.std.proofs.Common.{◌≡◌, ℕ, ◌+◌, ◌≤◌, Bool, true, false, cond, ◌||◌, List, [], ◌∷◌, ◌++◌, length, take, drop, None, sym, refl, ap, ◌∙◌, subst, append_assoc, append-nil, arith, length-take}
 use lib.Bits.{bit_or}
 use Rattle.std.proofs.lemmas.Bool.{eqb-true}
-use Rattle.registers.specs.Flags.{contains, data_ready, thr_empty, divisor_access}
-use Rattle.registers.specs.Refusal.{Refusal}
+use Rattle.registers.specs.Flags.{contains, thr_empty, divisor_access}
 use Rattle.backends.specs.declared.access.Access.{Access}
 use Rattle.backends.specs.declared.character.Counts.{Counts}
 use Rattle.backends.specs.Chip.{ChipState, Setup, Fifos, absent, off, on, is_on, capacity}
-use Rattle.backends.specs.Device.{Device, Runs, rd, wr}
+use Rattle.backends.specs.Device.{Device, Runs, wr}
 use Rattle.backends.specs.Rules.{KeepsRules, idle, with_lcr}
 use Rattle.driver.specs.Kept.{Kept}
 use Rattle.driver.specs.Traces.{noting, Probe, probe, Patterns, both_back, first_lost, second_lost}
 use Rattle.driver.specs.Receives.{Try, took, missed, Sound, tries, got, statuses}
-use Rattle.driver.specs.Sends.{Question, status, control, lines, asks, line_status, modem_status, Answers, no_room, unchecked, looped, clear, not_clear, Attempt, Attempted, wrote, refused, Attempts, attempts, taken, writes_of, line_statuses, modem_statuses, burst}
+use Rattle.driver.specs.Sends.{Question, status, control, lines, asks, line_status, modem_status, Answers, unchecked, looped, clear, Attempt, Attempted, wrote, refused, Attempts, attempts, taken, writes_of, line_statuses, modem_statuses, burst}
 use Rattle.driver.specs.Getters.{divisor_look}
 use Rattle.driver.proofs.Tries.{noting_append}
-use Rattle.ledger.proofs.Ledger.{Ledger, load}
-use Rattle.ledger.proofs.Steps.{At, Quiet, read_isr, read_mcr, read_msr, read_spr, write_spr, read_lcr, lcr_is, read_ier, write_ier, read_dll, read_dlm, write_lcr, StatusRead, read_lsr, read_data, write_data, same_line}
+use Rattle.ledger.proofs.Ledger.{load}
+use Rattle.ledger.proofs.Steps.{At, read_mcr, read_msr, read_spr, write_spr, read_lcr, lcr_is, read_dll, read_dlm, write_lcr, read_lsr, read_data, write_data, same_line}
 use Rattle.ledger.proofs.Shown.{contains_or}
 
 any_true : (b : Bool) → (b || contains divisor_access divisor_access) ≡ true

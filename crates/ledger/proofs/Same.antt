@@ -1,5 +1,5 @@
 -- A call that was made is the same call.
-use Rattle.std.proofs.Common.{◌≡◌, ℕ, ◌+◌, ◌<◌, ◌≤◌, List, [], ◌∷◌, ◌++◌, length, drop, Option, sym, refl, ap, ◌∙◌, arith, length-append, length-drop}
+use Rattle.std.proofs.Common.{◌≡◌, ℕ, ◌+◌, ◌≤◌, List, [], ◌∷◌, ◌++◌, length, drop, Option, ap, ◌∙◌, arith, length-append, length-drop}
 use Rattle.registers.specs.declared.error.Wait.{Wait}
 use Rattle.registers.specs.Refusal.{Refusal}
 use Rattle.backends.specs.Device.{Device}

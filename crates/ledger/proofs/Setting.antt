@@ -1,10 +1,10 @@
 -- What accesses do to the set_up of a chip, in loop mode or not.
-use Rattle.std.proofs.Common.{◌≡◌, ℕ, ◌+◌, ◌/◌, ◌%◌, Bool, true, false, cond, not, ◌&&◌, List, [], ◌∷◌, ◌++◌, sym, refl, ap, ◌∙◌, subst, lit<}
-use Rattle.registers.specs.Flags.{contains, divisor_access, fifo_enable, fifos_on}
+use Rattle.std.proofs.Common.{◌≡◌, ℕ, Bool, true, false, cond, List, [], ◌∷◌, refl, ap, ◌∙◌, subst, lit<}
+use Rattle.registers.specs.Flags.{contains, divisor_access, fifo_enable}
 use Rattle.backends.specs.declared.character.Character.{Character}
 use Rattle.backends.specs.Chip.{ChipState, Setup, Fifos, absent, off, on, is_on, divisor_reached, looping}
 use Rattle.backends.specs.Device.{Device}
-use Rattle.backends.specs.Rules.{KeepsRules, Moved, Takes, ShowsFifos, controlled, switched, reset, with_lcr, with_mcr, with_dll, with_dlm, with_fifos}
+use Rattle.backends.specs.Rules.{KeepsRules, Moved, Takes, ShowsFifos, controlled, reset, with_lcr, with_mcr, with_dll, with_dlm, with_fifos}
 
 -- both ways of a test, with the equation
 pub test : {P : Type 0} (b : Bool) → (b ≡ true → P) → (b ≡ false → P) → P

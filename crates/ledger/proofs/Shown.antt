@@ -1,10 +1,10 @@
 -- Errors that are shown, by the bits of saved and read bytes.
-use Rattle.std.proofs.Common.{◌≡◌, ℕ, ◌+◌, ◌-◌, ◌*◌, ◌/◌, ◌%◌, ◌^◌, ◌<◌, ◌≤◌, min, max, Bool, true, false, ◌||◌, eqb, ltb, sym, refl, ap, ◌∙◌, inl, inr, ⊎_elim, arith}
+use Rattle.std.proofs.Common.{◌≡◌, ℕ, ◌+◌, ◌-◌, ◌*◌, ◌^◌, ◌<◌, ◌≤◌, min, max, Bool, true, false, ◌||◌, eqb, ltb, sym, refl, ap, ◌∙◌, ⊎_elim, arith}
 use lib.Bits.{bit_and, bit_or, and_high}
 use Rattle.std.proofs.lemmas.Nat.{pow-add, pow_pos}
 use Rattle.std.proofs.lemmas.Bool.{cases_lt, cases_eq, lt-ltb, le-ltb, eq-eqb, ne_eqb}
 use Rattle.registers.specs.Fields.{bit}
-use Rattle.registers.specs.Flags.{contains, overrun_error, parity_error, framing_error, break_interrupt, line_errors}
+use Rattle.registers.specs.Flags.{contains, line_errors}
 use Rattle.registers.proofs.Bits.{bit_of_or, bit_of_and, bit_le}
 use Rattle.backends.specs.declared.character.Counts.{Counts}
 use Rattle.ledger.specs.Law.{ShowsErrors}

@@ -1,33 +1,27 @@
 -- An accepted init: the start of the law, and the set_up of the chip.
-use Rattle.std.proofs.Common.{◌≡◌, ℕ, ◌+◌, ◌*◌, ◌/◌, ◌%◌, ◌<◌, ◌≤◌, Bool, true, false, cond, eqb, List, [], ◌∷◌, ◌++◌, length, Some, None, Option, sym, refl, ap, ◌∙◌, subst, append_assoc, append-nil, arith, lit<}
+use Rattle.std.proofs.Common.{◌≡◌, ℕ, ◌/◌, ◌%◌, Bool, true, false, eqb, List, [], ◌∷◌, ◌++◌, Some, None, Option, sym, refl, ap, ◌∙◌, subst, append_assoc, append-nil, arith, lit<}
 use lib.Bits.{bit_and}
 use Rattle.registers.specs.declared.config.Config.{Config}
 use Rattle.registers.specs.declared.fcr.FifoTriggerLevel.{FifoTriggerLevel}
-use Rattle.registers.specs.declared.fcr.FifoTriggerLevel.TheVariants.{One, Four, Eight, Fourteen}
 use Rattle.registers.specs.declared.lcr.WordLength.{WordLength}
 use Rattle.registers.specs.declared.lcr.WordLength.TheVariants.{FiveBits, SixBits, SevenBits, EightBits}
 use Rattle.registers.specs.declared.lcr.Parity.{Parity}
 use Rattle.registers.specs.declared.lcr.Parity.TheVariants.{Disabled, Odd, Even, Forced1, Forced0}
 use Rattle.registers.specs.Fifo.{fifo_control}
-use Rattle.registers.specs.Flags.{contains, divisor_access, fifos_on, loop_back, fifo_enable}
+use Rattle.registers.specs.Flags.{contains, divisor_access, fifos_on, loop_back}
 use Rattle.registers.specs.Frame.{frame}
-use Rattle.registers.specs.Offsets.{at_lsr}
 use Rattle.backends.specs.declared.access.Access.{Access}
-use Rattle.backends.specs.declared.access.Kind.{Kind}
-use Rattle.backends.specs.declared.access.Kind.TheVariants.{Read, Write}
-use Rattle.backends.specs.declared.character.Counts.{Counts}
 use Rattle.backends.specs.Chip.{ChipState, Setup, Fifos, absent, off, on, is_on}
 use Rattle.backends.specs.Device.{Device, Runs, rd, wr}
-use Rattle.backends.specs.Rules.{KeepsRules, ShowsFifos, with_lcr, with_mcr, with_dll, with_dlm, with_fifos}
+use Rattle.backends.specs.Rules.{KeepsRules, ShowsFifos, with_lcr, with_dll, with_dlm, with_fifos}
 use Rattle.driver.specs.Kept.{Kept, with_config, with_fifo, with_saved}
-use Rattle.driver.specs.Traces.{Ran, Probe, probe, Patterns, both_back, first_lost, second_lost, line_set_up, FifoSetUp, unwanted, asked, Discarded, all_read, none_left, one_read, polls, Cleared, cleared, Opened, opened, DivisorFor, Initialised, done}
+use Rattle.driver.specs.Traces.{Probe, probe, Patterns, both_back, first_lost, second_lost, line_set_up, FifoSetUp, unwanted, asked, Discarded, all_read, none_left, one_read, polls, cleared, Opened, opened, Initialised, done}
 use Rattle.driver.proofs.Runs.{runs_append}
-use Rattle.ledger.specs.Law.{Within, none, Accounted, ShowsErrors, NoStatus, Start, SetUp, bytes}
+use Rattle.ledger.specs.Law.{Start, SetUp, bytes}
 use Rattle.ledger.proofs.Order.{within_same}
 use Rattle.ledger.proofs.Setting as setting
 use Rattle.ledger.proofs.Setting.{Set, turned, test}
-use Rattle.ledger.proofs.Shown.{grown_same, shows_none, contains_bit, Grown}
-use Rattle.ledger.proofs.Ledger.{Ledger}
+use Rattle.ledger.proofs.Shown.{grown_same, shows_none}
 use Rattle.ledger.proofs.Steps as steps
 use Rattle.ledger.proofs.Steps.{At}
 

@@ -1,9 +1,8 @@
 -- One access to a chip, and the ledger.
-use Rattle.std.proofs.Common.{◌≡◌, ℕ, ◌+◌, ◌<◌, ◌≤◌, Bool, true, false, eqb, List, [], ◌∷◌, ◌++◌, length, sym, refl, ap, ◌∙◌, subst, arith, lit<}
-use Rattle.std.proofs.lemmas.Bool.{eqb-true}
+use Rattle.std.proofs.Common.{◌≡◌, ℕ, ◌+◌, ◌<◌, ◌≤◌, Bool, true, false, List, [], ◌∷◌, ◌++◌, refl, ap, ◌∙◌, arith, lit<}
 use Rattle.registers.specs.Flags.{contains, data_ready, thr_empty, loop_back, divisor_access}
 use Rattle.backends.specs.declared.character.Counts.{Counts}
-use Rattle.backends.specs.Chip.{ChipState, Setup, is_on, capacity, divisor_reached, looping, with_transmitter, with_setup}
+use Rattle.backends.specs.Chip.{ChipState, Setup, capacity, divisor_reached, looping, with_transmitter}
 use Rattle.backends.specs.Device.{Device}
 use Rattle.backends.specs.Rules.{KeepsRules, Moved, idle, sent, some_wait, with_lcr}
 use Rattle.driver.specs.Kept.{Kept}

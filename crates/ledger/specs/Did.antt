@@ -1,5 +1,5 @@
 -- What each call did, by the driver's own promises.
-use Rattle.std.specs.Prelude.{◌≡◌, ℕ, ◌-◌, Bool, cond, List, [], ◌∷◌, length, is_ok, Some, None, vec_items, Result, bit_and, bit_or}
+use Rattle.std.specs.Prelude.{◌≡◌, ℕ, ◌-◌, Bool, cond, [], ◌∷◌, length, is_ok, Some, None, vec_items, Result, bit_and, bit_or}
 use Rattle.std.specs.Global.{Vec}
 use Rattle.std.specs.Result.{result_ok}
 use Rattle.registers.specs.declared.dump.ConfigRegisterDump.{ConfigRegisterDump}

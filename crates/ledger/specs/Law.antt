@@ -6,8 +6,6 @@ use Rattle.registers.specs.Frame.{frame}
 use Rattle.registers.specs.Offsets.{at_lsr}
 use Rattle.registers.specs.Refusal.{Refusal}
 use Rattle.backends.specs.declared.access.Access.{Access}
-use Rattle.backends.specs.declared.access.Kind.{Kind}
-use Rattle.backends.specs.declared.access.Kind.TheVariants.{Read, Write}
 use Rattle.backends.specs.declared.character.Character.{Character}
 use Rattle.backends.specs.declared.character.Counts.{Counts}
 use Rattle.backends.specs.Chip.{ChipState, Receiver, is_on}

@@ -1,10 +1,8 @@
-use Rattle.std.proofs.Common.{◌≡◌, ℕ, ◌+◌, ◌<◌, ◌≤◌, ◌≢◌, List, [], ◌∷◌, ◌++◌, length, get_or, take, set, sym, refl, ap, ◌∙◌, subst, ⊎_elim, arith, get_or-set_other, get_or-set_same}
+use Rattle.std.proofs.Common.{◌≡◌, ◌<◌, ◌≢◌, [], ◌∷◌, ◌++◌, length, get_or, set, sym, refl, ◌∙◌, subst, ⊎_elim, arith, get_or-set_other, get_or-set_same}
 use Rattle.std.proofs.lemmas.Bool.{cases_lt}
 use Rattle.ledger.specs.declared.call.Entry.{Entry}
 use Rattle.ledger.specs.Did.{SameCall}
 use Rattle.std.proofs.lemmas.List.{take_more_set, take_all, get_or_default}
-use Rattle.driver.specs.Kept.{kept}
-use Rattle.ledger.specs.Law.{Played}
 use Rattle.ledger.proofs.Lists.{played_push}
 use Rattle.ledger.proofs.Same.{same_call}
 use Rattle.ledger.proofs.list.play_all.Goals as goal
