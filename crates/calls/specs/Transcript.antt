@@ -1,5 +1,5 @@
 -- A transcript: the device below it, and a table that notes each access.
-use Rattle.std.specs.Prelude.{ℕ, ◌+◌, cond, nat_lt, slice_set}
+use Rattle.std.specs.Prelude.{◌+◌, cond, nat_lt, slice_set}
 use Rattle.backends.specs.Device.{Device, rd, wr}
 use Rattle.backends.specs.declared.access.Access.{Access}
 use Rattle.calls.specs.declared.transcript.Table.{Table}

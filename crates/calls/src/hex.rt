@@ -38,7 +38,7 @@ pub fn bytes_of(heap: Global, word: &[u8]) -> Result<Vec<u8>, Fault>
     ensures { IfOk result (λ v. Means word.now v.items) }
 {
     let mut bytes = Vec::new(heap);
-    if word == b"-" {
+    if word == b"-".as_slice() {
         return Ok(bytes);
     }
     if word.is_empty() || word.len() % 2 != 0 {

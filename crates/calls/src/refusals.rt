@@ -6,11 +6,11 @@ use registers::error::{
     BudgetError, ByteReceiveError, ByteSendError, InitError, InvalidAddressError,
     InvalidBaudRateError, InvalidDivisorError, LoopbackError, RemoteReadyToReceiveError, Wait,
 };
-use std::fmt;
+use std::alloc::AllocError;
 use std::fmt::Write;
 
 /// Registers that cannot stand at an address.
-pub fn address(e: InvalidAddressError, out: &mut String) -> fmt::Result {
+pub fn address(e: InvalidAddressError, out: &mut String) -> Result<(), AllocError> {
     let number = numbers::of_address(e);
     match e {
         InvalidAddressError::InvalidStride(stride) => write!(out, "no {number} {stride}"),
@@ -19,7 +19,7 @@ pub fn address(e: InvalidAddressError, out: &mut String) -> fmt::Result {
 }
 
 /// A rate without a divisor.
-pub fn divisor(e: InvalidDivisorError, out: &mut String) -> fmt::Result {
+pub fn divisor(e: InvalidDivisorError, out: &mut String) -> Result<(), AllocError> {
     let number = numbers::of_divisor(e);
     match e {
         InvalidDivisorError::NonInteger(e) => {
@@ -34,7 +34,7 @@ pub fn divisor(e: InvalidDivisorError, out: &mut String) -> fmt::Result {
 }
 
 /// A divisor without a rate.
-pub fn baud_rate(e: InvalidBaudRateError, out: &mut String) -> fmt::Result {
+pub fn baud_rate(e: InvalidBaudRateError, out: &mut String) -> Result<(), AllocError> {
     let number = numbers::of_baud_rate(e);
     match e {
         InvalidBaudRateError::NonInteger(e) => {
@@ -48,7 +48,7 @@ pub fn baud_rate(e: InvalidBaudRateError, out: &mut String) -> fmt::Result {
 }
 
 /// A device that was not initialised.
-pub fn init(e: InitError, out: &mut String) -> fmt::Result {
+pub fn init(e: InitError, out: &mut String) -> Result<(), AllocError> {
     match e {
         InitError::InvalidBaudRate(e) => divisor(e, out),
         InitError::BudgetUsedUp(e) => budget(e, out),
@@ -60,7 +60,7 @@ pub fn init(e: InitError, out: &mut String) -> fmt::Result {
 }
 
 /// A budget that was used up in a wait.
-pub fn budget(e: BudgetError, out: &mut String) -> fmt::Result {
+pub fn budget(e: BudgetError, out: &mut String) -> Result<(), AllocError> {
     let number = numbers::of_budget(e);
     let wait = wait_name(e.wait);
     write!(out, "no {number} {wait}")
@@ -79,25 +79,25 @@ fn wait_name(wait: Wait) -> &'static str {
 }
 
 /// A receive that found nothing.
-pub fn receive(e: ByteReceiveError, out: &mut String) -> fmt::Result {
+pub fn receive(e: ByteReceiveError, out: &mut String) -> Result<(), AllocError> {
     let number = numbers::of_receive(e);
     write!(out, "no {number}")
 }
 
 /// A send that was refused.
-pub fn send(e: ByteSendError, out: &mut String) -> fmt::Result {
+pub fn send(e: ByteSendError, out: &mut String) -> Result<(), AllocError> {
     let number = numbers::of_send(e);
     write!(out, "no {number}")
 }
 
 /// A remote that is not ready.
-pub fn remote(e: RemoteReadyToReceiveError, out: &mut String) -> fmt::Result {
+pub fn remote(e: RemoteReadyToReceiveError, out: &mut String) -> Result<(), AllocError> {
     let number = numbers::of_remote(e);
     write!(out, "no {number}")
 }
 
 /// A loopback test that failed.
-pub fn loopback(e: LoopbackError, out: &mut String) -> fmt::Result {
+pub fn loopback(e: LoopbackError, out: &mut String) -> Result<(), AllocError> {
     let number = numbers::of_loopback(e);
     match e {
         LoopbackError::SendError(e) => {

@@ -1,8 +1,8 @@
 -- A receive hands out no more characters than its buffer has places.
-use Prim.Native.Nat.{ℕ, ◌+◌, ◌≤◌}
+use Prim.Native.Nat.{ℕ, ◌≤◌}
 use native.Mathlib.Omega.{arith}
-use mathlib.Core.List.{List, [], ◌∷◌, ◌++◌}
-use mathlib.Core.Path.{◌≡◌, ap, ◌∙◌}
+use mathlib.Core.List.{List, [], ◌∷◌}
+use mathlib.Core.Path.{ap, ◌∙◌}
 use lib.ListN.{length, take, drop, length-append, length-take}
 use Rattle.backends.specs.Device.{Device}
 use Rattle.driver.specs.Kept.{Kept}

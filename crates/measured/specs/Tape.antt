@@ -1,5 +1,4 @@
 -- A scripted device that keeps a sum over what is written.
-use Rattle.std.specs.Prelude.{ℕ}
 use Rattle.backends.specs.Device.{Device}
 use Rattle.backends.specs.Script.{scripted, advanced}
 use Rattle.measured.specs.declared.tape.Tape.{Tape}

@@ -7,4 +7,4 @@ pub loop-place-preserved : goal.loop-place-preserved
 loop-place-preserved c =
     let e = c.in_ok-push.ensures in
     let i = c.loop-place.invariant in
-    (omega (arith, i.0, e.len), λ k d. place_more (entry_of c.args.arrival) d _ _ (vec_items c.push.new.self) _ _ i.0 (λ j. i.1 j d) (λ j. e.places.0 j d) (e.places.1 d (refl {a = true})) c.entry_at.ensures k)
+    (omega (arith, i.0, e.len), λ k d. place_more (entry_of c.args.arrival) d _ _ (vec_items c.push.new.self) _ _ i.0 (λ j. i.1 j d) (λ j. e.by_index.0 j d) (e.by_index.1 d (refl {a = true})) c.entry_at.ensures k)
