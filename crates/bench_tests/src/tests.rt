@@ -3,6 +3,8 @@
 use crate::tables::*;
 use backends::Backend;
 use bench::{Bench, BenchOptions, ModemLines, Plug};
+use std::alloc::Global;
+use std::process::Abort;
 use std::test::*;
 
 /// A tape whose first entry comes on access 2 and brings the others with it: bytes 1 to n.
@@ -138,23 +140,23 @@ fn loop_mode_stops_the_gaps(rt: HostRuntime) -> Result<(), Fail> {
     )
 }
 
-fn leaves_on(rt: HostRuntime, pace: u16, access: u32) -> Result<(), Fail> {
-    let mut store = Vec::new(rt.alloc());
+fn leaves_on(rt: &impl Abort, heap: Global, pace: u16, access: u32) -> Result<(), Fail> {
+    let mut store = Vec::new(heap);
     store.push(0)?;
-    let mut b = Bench::new(options(pace), Vec::new(rt.alloc()), store);
+    let mut b = Bench::new(options(pace), Vec::new(heap), store);
     b.write(0, 0x31);
     for _ in 2..access {
-        assert_eq!(b.read(5), 0x00);
+        assert_eq!(rt; b.read(5), 0x00);
     }
-    assert_eq!(b.read(5), 0x60);
+    assert_eq!(rt; b.read(5), 0x60);
     Ok(())
 }
 
 #[test]
 fn paces(rt: HostRuntime) -> Result<(), Fail> {
-    leaves_on(rt, 0, 2)?;
-    leaves_on(rt, 1, 2)?;
-    leaves_on(rt, 65_535, 65_535)
+    leaves_on(&rt, rt.alloc(), 0, 2)?;
+    leaves_on(&rt, rt.alloc(), 1, 2)?;
+    leaves_on(&rt, rt.alloc(), 65_535, 65_535)
 }
 
 #[test]

@@ -6,6 +6,7 @@ use crate::play::*;
 use registers::config::Config;
 use registers::error::{BudgetError, ByteSendError, LoopbackError, Wait};
 use registers::lcr::WordLength;
+use std::process::Abort;
 use std::test::*;
 
 /// What the test sends first.
@@ -69,7 +70,7 @@ fn reads(run: &Run) -> [u8; 58] {
 }
 
 /// Makes a test without a budget, by a driver that was set up for words of this length.
-fn test(run: &Run) -> Result<(), Fail> {
+fn test(rt: &impl Abort, run: &Run) -> Result<(), Fail> {
     let config = Config {
         data_bits: run.length,
         ..Config::DEFAULT
@@ -81,7 +82,7 @@ fn test(run: &Run) -> Result<(), Fail> {
     let mut place = EMPTY;
     let waited = device.test_loopback(&mut place, 0);
     let count = device.backend().log().count();
-    assert_eq!(
+    assert_eq!(rt;
         (
             waited.result,
             waited.fruitless,
@@ -144,24 +145,24 @@ fn wrong_message(run: Run, at: usize, bit: u8, carries: bool) -> Run
 }
 
 /// A good run, and all runs with one wrong bit.
-fn with_all_wrong_bits(run: Run, mask: u8) -> Result<(), Fail> {
-    test(&run)?;
+fn with_all_wrong_bits(rt: &impl Abort, run: Run, mask: u8) -> Result<(), Fail> {
+    test(rt, &run)?;
     for bit in BITS {
         let carries = bit & mask != 0;
-        test(&wrong_byte(run, bit, carries))?;
+        test(rt, &wrong_byte(run, bit, carries))?;
         for at in 0..16 {
-            test(&wrong_message(run, at, bit, carries))?;
+            test(rt, &wrong_message(run, at, bit, carries))?;
         }
     }
     Ok(())
 }
 
 #[test]
-fn every_bit_of_every_word() -> Result<(), Fail> {
+fn every_bit_of_every_word(rt: HostRuntime) -> Result<(), Fail> {
     for (length, mask) in WORDS {
         for fifos in [true, false] {
-            with_all_wrong_bits(good(length, fifos, mask, 0x00), mask)?;
-            with_all_wrong_bits(good(length, fifos, mask, !mask), mask)?;
+            with_all_wrong_bits(&rt, good(length, fifos, mask, 0x00), mask)?;
+            with_all_wrong_bits(&rt, good(length, fifos, mask, !mask), mask)?;
         }
     }
     Ok(())
