@@ -1,4 +1,4 @@
-use Rattle.std.proofs.Common.{◌∙◌}
+use Rattle.std.proofs.Common.{◌∙◌, rules}
 use Rattle.std.specs.Vec.{with_items}
 use Rattle.std.proofs.lemmas.List.{with_items_is}
 use Rattle.ledger.specs.Did as did
@@ -59,7 +59,7 @@ pub returns-in-Mcr : goal.returns-in-Mcr
 returns-in-Mcr g c = rw c.in-Mcr.is (did.mcr _ c.mcr.ensures)
 
 pub returns-in-Lsr : goal.returns-in-Lsr
-returns-in-Lsr g c = rw c.in-Lsr.is (did.lsr _ c.lsr.ensures)
+returns-in-Lsr g c = rw c.in-Lsr.is (search (rules, did.lsr))
 
 pub returns-in-Msr : goal.returns-in-Msr
 returns-in-Msr g c = rw c.in-Msr.is (did.msr _ c.msr.ensures)
