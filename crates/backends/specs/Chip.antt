@@ -1,4 +1,4 @@
--- What a 16550 holds: its receiver, its transmitter and its set_up.
+-- What a 16550 holds: its receiver, its transmitter and its set-up.
 use Rattle.std.specs.Prelude.{ℕ, Bool, true, false, List}
 use Rattle.registers.specs.Flags.{contains, divisor_access, loop_back}
 use Rattle.backends.specs.declared.character.Character.{Character}

@@ -38,7 +38,8 @@ impl Parts {
     /// All characters arrive whose time has come.
     fn fill(&mut self)
         requires { PartsSound self.old }
-        ensures { self.new ≡ filled self.old }
+        ensures exact { self.new ≡ filled self.old }
+        ensures sound { PartsSound self.new }
     {
         while self.due() {
             self.arrive();

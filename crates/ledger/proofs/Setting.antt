@@ -1,4 +1,4 @@
--- What accesses do to the set_up of a chip, in loop mode or not.
+-- What accesses do to the set-up of a chip, in loop mode or not.
 use Rattle.std.proofs.Common.{◌≡◌, ℕ, Bool, true, false, cond, List, [], ◌∷◌, refl, ap, ◌∙◌, subst, lit<}
 use Rattle.registers.specs.Flags.{contains, divisor_access, fifo_enable}
 use Rattle.backends.specs.declared.character.Character.{Character}

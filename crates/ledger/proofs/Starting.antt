@@ -1,4 +1,4 @@
--- An accepted init: the start of the law, and the set_up of the chip.
+-- An accepted init: the start of the law, and the set-up of the chip.
 use Rattle.std.proofs.Common.{◌≡◌, ℕ, ◌/◌, ◌%◌, Bool, true, false, eqb, List, [], ◌∷◌, ◌++◌, Some, None, Option, sym, refl, ap, ◌∙◌, subst, append_assoc, append-nil, arith, lit<}
 use lib.Bits.{bit_and}
 use Rattle.registers.specs.declared.config.Config.{Config}

@@ -40,7 +40,7 @@ module _ {S : Type 0} (d : Device S) (meaning : S → ChipState) (law : KeepsRul
     pub write_spr : (v : ℕ) → Quiet (d.write s 7 v)
     write_spr v = let w = law.writing s 7 v (lit< tt) in quiet _ w.mid w.before (w.acts.scratch refl)
 
-    -- what the chip's set_up is when an access acts
+    -- what the chip's set-up is when an access acts
     mid_setup : (mid : ChipState) → Moved (meaning s) mid → mid.setup ≡ σ
     mid_setup mid p = (moved start base out gone σ k (meaning s) mid l (law.single s) p).ledger.setup
 

@@ -17,4 +17,4 @@ pub returns : goal.returns
 unfolding filled
 returns c =
     let e = sym c.due.ensures ∙ c.loop-self-test.false in
-    sym (runs_stop (left c.loop-self.self.tape) c.loop-self.self e) ∙ c.loop-self.invariant.0
+    record { exact = sym (runs_stop (left c.loop-self.self.tape) c.loop-self.self e) ∙ c.loop-self.invariant.0; sound = c.loop-self.invariant.1 }
