@@ -10,5 +10,5 @@ pub returns-else-n-unit : goal.returns-else-n-unit
 returns-else-n-unit c = λ q e.
     let pos : 0 < 16 * (c.args.prescaler + 1) * c.args.factor = mul-pos (omega arith) c.requires.1 in
     let solved : c.from-3.result / (16 * (c.from.result + 1) * c.from-2.result) * (16 * (c.from.result + 1) * c.from-2.result) ≡ c.from-4.result =
-        simp (c.from.ensures, c.from-2.ensures, c.from-3.ensures, c.from-4.ensures) (exact _ _ pos q e) in
+    simp (c.from.ensures, c.from-2.ensures, c.from-3.ensures, c.from-4.ensures) (exact _ _ pos q e) in
     omega arith
