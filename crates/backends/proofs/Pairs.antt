@@ -3,8 +3,9 @@ use Rattle.std.proofs.Common.{◌≡◌, ℕ, ◌+◌, ◌*◌, ◌<◌, ◌≤�
 use Rattle.std.proofs.lemmas.Bool.{lt-ltb, le-ltb}
 use Rattle.backends.specs.Space.{Bus}
 use Rattle.backends.specs.Place.{register}
-use Rattle.backends.specs.Adapters.{mapped, ported}
-use Rattle.backends.specs.Pair.{paired, Splits, mmio_first, mmio_second, port_first, port_second}
+use Rattle.backends.specs.Alike.{ActsAs}
+use Rattle.backends.specs.Adapters.{adapted}
+use Rattle.backends.specs.Pair.{paired, Splits, on_first, on_second}
 use Rattle.backends.specs.declared.pair.Pair.{Pair}
 use Rattle.backends.proofs.Alike.{Agree, alike}
 
@@ -18,39 +19,35 @@ below base stride boundary k h l =
 above : (base stride boundary k : ℕ) → boundary ≤ base → ltb (register base stride k) boundary ≡ false
 above base stride boundary k h = le-ltb (base + k * stride) boundary (omega arith)
 
-module _ {A B : Type 0} (x : Bus A) (y : Bus B) (w : Pair A B) where
-  mmio_agrees_below : Agree (mapped (paired x y)) (mapped x) (mmio_first w) (λ m. register m.place.base m.place.stride 7 < w.boundary) (λ k. k < 8)
-  mmio_agrees_below = record {
-    gives = λ m i k l. simp (below m.place.base m.place.stride w.boundary k i l);
-    next = λ m i k l. simp (below m.place.base m.place.stride w.boundary k i l) (refl, i);
-    write = λ m i k v l. simp (below m.place.base m.place.stride w.boundary k i l) (refl, i);
+module _ {A B : Type 0} (x : Bus A) (y : Bus B) (w : Pair A B) {P : Type 0} (base stride : P → ℕ) where
+  agrees_below : Agree (adapted base stride (paired x y)) (adapted base stride x) (on_first w)
+      (λ m. register (base m.place) (stride m.place) 7 < w.boundary) (λ k. k < 8)
+  agrees_below = record {
+    gives = λ m i k l. simp (below (base m.place) (stride m.place) w.boundary k i l);
+    next = λ m i k l. simp (below (base m.place) (stride m.place) w.boundary k i l) (refl, i);
+    write = λ m i k v l. simp (below (base m.place) (stride m.place) w.boundary k i l) (refl, i);
   }
 
-  mmio_agrees_above : Agree (mapped (paired x y)) (mapped y) (mmio_second w) (λ m. w.boundary ≤ m.place.base) (λ k. k < 8)
-  mmio_agrees_above = record {
-    gives = λ m i k l. simp (above m.place.base m.place.stride w.boundary k i);
-    next = λ m i k l. simp (above m.place.base m.place.stride w.boundary k i) (refl, i);
-    write = λ m i k v l. simp (above m.place.base m.place.stride w.boundary k i) (refl, i);
+  agrees_above : Agree (adapted base stride (paired x y)) (adapted base stride y) (on_second w) (λ m. w.boundary ≤ base m.place) (λ k. k < 8)
+  agrees_above = record {
+    gives = λ m i k l. simp (above (base m.place) (stride m.place) w.boundary k i);
+    next = λ m i k l. simp (above (base m.place) (stride m.place) w.boundary k i) (refl, i);
+    write = λ m i k v l. simp (above (base m.place) (stride m.place) w.boundary k i) (refl, i);
   }
 
-  port_agrees_below : Agree (ported (paired x y)) (ported x) (port_first w) (λ m. register m.place.base 1 7 < w.boundary) (λ k. k < 8)
-  port_agrees_below = record {
-    gives = λ m i k l. simp (below m.place.base 1 w.boundary k i l);
-    next = λ m i k l. simp (below m.place.base 1 w.boundary k i l) (refl, i);
-    write = λ m i k v l. simp (below m.place.base 1 w.boundary k i l) (refl, i);
-  }
+  -- at places of any kind
+  splits_below : (p : P) → register (base p) (stride p) 7 < w.boundary
+      → ActsAs (adapted base stride (paired x y)) (adapted base stride x) (on_first w) (record { place = p; space = w.first })
+  splits_below p h = alike _ _ _ _ agrees_below (record { place = p; space = w.first }) h
 
-  port_agrees_above : Agree (ported (paired x y)) (ported y) (port_second w) (λ m. w.boundary ≤ m.place.base) (λ k. k < 8)
-  port_agrees_above = record {
-    gives = λ m i k l. simp (above m.place.base 1 w.boundary k i);
-    next = λ m i k l. simp (above m.place.base 1 w.boundary k i) (refl, i);
-    write = λ m i k v l. simp (above m.place.base 1 w.boundary k i) (refl, i);
-  }
+  splits_above : (p : P) → w.boundary ≤ base p
+      → ActsAs (adapted base stride (paired x y)) (adapted base stride y) (on_second w) (record { place = p; space = w.second })
+  splits_above p h = alike _ _ _ _ agrees_above (record { place = p; space = w.second }) h
 
-  pub splits : Splits x y w
-  splits = record {
-    mmio_below = λ p h. alike _ _ _ _ mmio_agrees_below (record { place = p; space = w.first }) h;
-    mmio_above = λ p h. alike _ _ _ _ mmio_agrees_above (record { place = p; space = w.second }) h;
-    port_below = λ p h. alike _ _ _ _ port_agrees_below (record { place = p; space = w.first }) h;
-    port_above = λ p h. alike _ _ _ _ port_agrees_above (record { place = p; space = w.second }) h;
-  }
+pub splits : {A B : Type 0} (x : Bus A) (y : Bus B) (w : Pair A B) → Splits x y w
+splits x y w = record {
+  mmio_below = splits_below x y w (λ p. p.base) (λ p. p.stride);
+  mmio_above = splits_above x y w (λ p. p.base) (λ p. p.stride);
+  port_below = splits_below x y w (λ p. p.base) (λ p. 1);
+  port_above = splits_above x y w (λ p. p.base) (λ p. 1);
+}

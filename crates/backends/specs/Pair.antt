@@ -6,8 +6,7 @@ use Rattle.backends.specs.Alike.{ActsAs}
 use Rattle.backends.specs.Adapters.{mapped, ported}
 use Rattle.backends.specs.declared.place.MmioPlace.{MmioPlace}
 use Rattle.backends.specs.declared.place.PortPlace.{PortPlace}
-use Rattle.backends.specs.declared.mmio.MmioBackend.{MmioBackend}
-use Rattle.backends.specs.declared.pio.PioBackend.{PioBackend}
+use Rattle.backends.specs.declared.adapter.Adapter.{Adapter}
 use Rattle.backends.specs.declared.pair.Pair.{Pair}
 
 -- the pair with another state of one side
@@ -28,25 +27,19 @@ paired x y = record {
 }
 
 -- an adapter over one side, seen over the pair
-abbrev pub mmio_first : {A B : Type 0} → Pair A B → MmioBackend A → MmioBackend (Pair A B)
-mmio_first w m = record { place = m.place; space = with_first w m.space }
+abbrev pub on_first : {P A B : Type 0} → Pair A B → Adapter P A → Adapter P (Pair A B)
+on_first w m = record { place = m.place; space = with_first w m.space }
 
-abbrev pub mmio_second : {A B : Type 0} → Pair A B → MmioBackend B → MmioBackend (Pair A B)
-mmio_second w m = record { place = m.place; space = with_second w m.space }
-
-abbrev pub port_first : {A B : Type 0} → Pair A B → PioBackend A → PioBackend (Pair A B)
-port_first w m = record { place = m.place; space = with_first w m.space }
-
-abbrev pub port_second : {A B : Type 0} → Pair A B → PioBackend B → PioBackend (Pair A B)
-port_second w m = record { place = m.place; space = with_second w m.space }
+abbrev pub on_second : {P A B : Type 0} → Pair A B → Adapter P B → Adapter P (Pair A B)
+on_second w m = record { place = m.place; space = with_second w m.space }
 
 -- an adapter whose eight addresses lie on one side is what it would be over that side alone
 pub record Splits {A B : Type 0} (x : Bus A) (y : Bus B) (w : Pair A B) : Type 0 where
   pub mmio_below : (p : MmioPlace) → register p.base p.stride 7 < w.boundary
-      → ActsAs (mapped (paired x y)) (mapped x) (mmio_first w) (record { place = p; space = w.first })
+      → ActsAs (mapped (paired x y)) (mapped x) (on_first w) (record { place = p; space = w.first })
   pub mmio_above : (p : MmioPlace) → w.boundary ≤ p.base
-      → ActsAs (mapped (paired x y)) (mapped y) (mmio_second w) (record { place = p; space = w.second })
+      → ActsAs (mapped (paired x y)) (mapped y) (on_second w) (record { place = p; space = w.second })
   pub port_below : (p : PortPlace) → register p.base 1 7 < w.boundary
-      → ActsAs (ported (paired x y)) (ported x) (port_first w) (record { place = p; space = w.first })
+      → ActsAs (ported (paired x y)) (ported x) (on_first w) (record { place = p; space = w.first })
   pub port_above : (p : PortPlace) → w.boundary ≤ p.base
-      → ActsAs (ported (paired x y)) (ported y) (port_second w) (record { place = p; space = w.second })
+      → ActsAs (ported (paired x y)) (ported y) (on_second w) (record { place = p; space = w.second })

@@ -1,5 +1,5 @@
 -- Where eight registers may stand: the two questions about a base address and a stride.
-use Rattle.std.specs.Prelude.{◌≡◌, ℕ, ◌+◌, ◌-◌, ◌*◌, ◌/◌, ◌%◌, ◌^◌, ◌<◌, ◌≤◌, min, cond, [], ◌∷◌, ◌==◌, ◌≢◌, nat_lt}
+use Rattle.std.specs.Prelude.{◌≡◌, ℕ, ◌+◌, ◌-◌, ◌*◌, ◌/◌, ◌%◌, ◌^◌, ◌<◌, ◌≤◌, cond, [], ◌∷◌, ◌==◌, ◌≢◌, Some, None, Option, nat_lt}
 use Rattle.registers.specs.Refusal.{Refusal, refusal, amount}
 
 -- the address of the register k
@@ -31,6 +31,8 @@ pub data NoPort (base : ℕ) : Refusal → Type 0 where
 abbrev pub Elsewhere : ℕ → ℕ → ℕ → Type 0
 Elsewhere base stride a = (k : ℕ) → k < 8 → a ≢ register base stride k
 
--- the offset of the register at the address a, and 8 where none stands
-abbrev pub offset_at : ℕ → ℕ → ℕ → ℕ
-offset_at base stride a = cond (nat_lt a base) 8 (cond ((a - base) % stride == 0) (min ((a - base) / stride) 8) 8)
+-- the offset of the register at the address a, where one stands
+abbrev pub offset_at : ℕ → ℕ → ℕ → Option ℕ
+offset_at base stride a =
+    cond (nat_lt a base) None
+    (cond ((a - base) % stride == 0) (cond (nat_lt ((a - base) / stride) 8) (Some ((a - base) / stride)) None) None)

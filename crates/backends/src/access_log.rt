@@ -1,46 +1,44 @@
 //! The table of a recorder.
 
-ghost use Rattle.std.specs.Prelude.{◌≡◌, ℕ, ◌+◌, ◌<◌, ◌≤◌, min, List, [], ◌∷◌, ◌++◌, take};
+ghost use Rattle.std.specs.Prelude.{◌≡◌, ℕ, ◌<◌, min, [], take};
 ghost use Rattle.backends.specs.Log.{noted, Holds};
-ghost use Rattle.backends.specs.declared.access.Access.{Access as ARecord};
 
-use crate::access::{Access, Kind};
+use crate::access::Access;
 
-/// How many accesses a table keeps.
-const ROOM: usize = 256;
-
-/// The first 256 accesses, and a count of all, which stays at its largest value.
+/// The first accesses, as many as there is room for, and a count of all, which stays at its largest
+/// value.
 #[derive(Drop)]
-pub struct AccessLog {
+pub struct AccessLog<const ROOM: usize> {
     entries: [Access; ROOM],
     count: u64,
 }
 
-impl AccessLog {
+impl<const ROOM: usize> AccessLog<ROOM> {
     /// An empty table.
-    pub fn new() -> AccessLog
-        ensures { Holds result [] }
+    pub fn new() -> Self
+        ensures { Holds ROOM result [] }
     {
         AccessLog {
-            entries: [Access {
-                kind: Kind::Read,
-                offset: 0,
-                value: 0,
-            }; ROOM],
+            entries: [Access::read(0, 0); ROOM],
             count: 0,
         }
     }
 
     /// Notes one access more.
     pub fn note(&mut self, access: Access)
-        ensures exact { self.new ≡ noted self.old access }
+        ensures exact { self.new ≡ noted ROOM self.old access }
     {
-        if self.count < 256 {
+        if self.count < ROOM as u64 {
             self.entries[self.count as usize] = access;
         }
-        if self.count < u64::MAX {
-            self.count += 1;
-        }
+        self.count = self.count.saturating_add(1);
+    }
+
+    /// Forgets all accesses.
+    pub fn clear(&mut self)
+        ensures { Holds ROOM self.new [] }
+    {
+        self.count = 0;
     }
 
     /// How many accesses were made.
@@ -52,13 +50,9 @@ impl AccessLog {
 
     /// The accesses that the table keeps, in their order.
     pub fn recorded(&self) -> &[Access]
-        ensures { result.now ≡ take (min self.now.count 256) self.now.entries }
+        ensures { result.now ≡ take (min self.now.count ROOM) self.now.entries }
     {
-        let kept = if self.count < 256 {
-            self.count as usize
-        } else {
-            ROOM
-        };
-        &self.entries[0..kept]
+        let kept = self.count.min(ROOM as u64);
+        &self.entries[..kept as usize]
     }
 }

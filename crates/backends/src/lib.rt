@@ -5,12 +5,11 @@
 
 mod access;
 mod access_log;
+mod adapter;
 mod backend;
 mod character;
 mod chip;
-mod mmio;
 mod pair;
-mod pio;
 mod place;
 mod recorder;
 mod script;
@@ -20,14 +19,13 @@ mod worked;
 
 pub use access::{Access, Kind};
 pub use access_log::AccessLog;
+pub use adapter::{Adapter, MmioBackend, PioBackend};
 pub use backend::Backend;
 pub use character::{Character, Counts};
 pub use chip::Chip;
-pub use mmio::MmioBackend;
 pub use pair::Pair;
-pub use pio::PioBackend;
-pub use place::{MmioPlace, PortPlace};
-pub use recorder::Recorder;
+pub use place::{MmioPlace, Place, PortPlace};
+pub use recorder::{Recorder, Recording};
 pub use script::Script;
 pub use space::Space;
 pub use window::Window;

@@ -1,10 +1,26 @@
 //! Where the eight registers of a device may stand.
 
-ghost use Rattle.std.specs.Prelude.{◌≡◌, ◌+◌, ◌^◌, ◌<◌, ◌≤◌, Ok, Err};
+ghost use Rattle.std.specs.Prelude.{◌≡◌, ℕ, ◌+◌, ◌^◌, ◌<◌, ◌≤◌, Ok, Err};
 ghost use Rattle.backends.specs.Place.{register, offset_at, MmioFits, NoMmio, PortFits, NoPort};
 ghost use Rattle.registers.specs.Refusal.{address_refusal};
 
 use registers::error::InvalidAddressError;
+
+/// Eight registers at 64-bit addresses, each the same distance behind the one before.
+pub trait Place {
+    ghost base: { Self → ℕ };
+
+    ghost stride: { Self → ℕ };
+
+    /// The address of the first register.
+    fn address(&self) -> u64
+        ensures value { result ≡ base self.now }
+        ensures fits { register (base self.now) (stride self.now) 7 < 2 ^ 64 };
+
+    /// The distance between registers.
+    fn distance(&self) -> u8
+        ensures { result ≡ stride self.now };
+}
 
 /// A base address and a stride at which eight registers have 64-bit addresses.
 #[derive(Clone, Copy)]
@@ -42,28 +58,17 @@ impl MmioPlace {
         Ok(MmioPlace { base, stride })
     }
 
-    /// The address of a register.
-    pub(crate) fn address_of(&self, offset: u8) -> u64
-        requires { offset < 8 }
-        ensures { result ≡ register self.now.base self.now.stride offset }
-    {
-        self.base + u64::from(offset) * u64::from(self.stride)
-    }
-
-    /// The offset of the register at an address, and 8, which is no register, where none stands.
-    pub(crate) fn offset_of(&self, address: u64) -> u8
+    /// The offset of the register at an address, where one stands there.
+    pub(crate) fn offset_of(&self, address: u64) -> Option<u8>
         ensures { result ≡ offset_at self.now.base self.now.stride address }
     {
-        if address < self.base {
-            return 8;
-        }
-        let distance = address - self.base;
+        let distance = address.checked_sub(self.base)?;
         let stride = u64::from(self.stride);
         if distance % stride != 0 {
-            return 8;
+            return None;
         }
         let offset = distance / stride;
-        if offset < 8 { offset as u8 } else { 8 }
+        if offset < 8 { Some(offset as u8) } else { None }
     }
 }
 
@@ -82,21 +87,43 @@ impl PortPlace {
         }
         Ok(PortPlace { base })
     }
+}
 
-    /// The port of a register, as an address.
-    pub(crate) fn port_of(&self, offset: u8) -> u64
-        requires { offset < 8 }
-        ensures { result ≡ register self.now.base 1 offset }
-    {
-        u64::from(self.base) + u64::from(offset)
+impl Place for MmioPlace {
+    ghost base = { λ p. p.base };
+
+    ghost stride = { λ p. p.stride };
+
+    fn address(&self) -> u64 {
+        self.base
     }
 
-    /// The same addresses, as a place of a 64-bit address space.
-    pub(crate) fn widened(self) -> MmioPlace
-        ensures { (result.base ≡ self.base) × (result.stride ≡ 1) }
-    {
+    fn distance(&self) -> u8 {
+        self.stride
+    }
+}
+
+impl Place for PortPlace {
+    ghost base = { λ p. p.base };
+
+    ghost stride = { λ p. 1 };
+
+    fn address(&self) -> u64 {
+        u64::from(self.base)
+    }
+
+    fn distance(&self) -> u8 {
+        1
+    }
+}
+
+// The same addresses, in a 64-bit address space.
+impl From<PortPlace> for MmioPlace {
+    ghost from_gives = { λ p m. (m.base ≡ p.base) × (m.stride ≡ 1) };
+
+    fn from(place: PortPlace) -> MmioPlace {
         MmioPlace {
-            base: u64::from(self.base),
+            base: u64::from(place.base),
             stride: 1,
         }
     }

@@ -1,54 +1,63 @@
 //! A backend that records what is done with the one below it.
 
+ghost use Rattle.backends.specs.Log.{Holds};
 ghost use Rattle.backends.specs.Recorder.{recorded, Faithful};
-ghost use Rattle.std.specs.Prelude.{◌≡◌};
+ghost use Rattle.std.specs.Prelude.{◌≡◌, []};
 ghost use Rattle.std.proofs.Common.{rules};
 
-use crate::access::{Access, Kind};
+use crate::access::Access;
 use crate::access_log::AccessLog;
 use crate::backend::Backend;
 use crate::chip::Chip;
 
-/// A backend that means what the one it holds means, and records the accesses.
+/// A backend that means what the one it holds means, and records the accesses in a table of this
+/// room.
 #[derive(Drop)]
-pub struct Recorder<B> {
+pub struct Recording<B, const ROOM: usize> {
     inner: B,
-    log: AccessLog,
+    log: AccessLog<ROOM>,
 }
 
-impl<B: Backend> Recorder<B> {
+/// A recorder that keeps the first 256 accesses.
+pub type Recorder<B> = Recording<B, 256>;
+
+impl<B: Backend, const ROOM: usize> Recording<B, ROOM> {
     /// A recorder that has recorded nothing. What it will hold is what is done with it.
     pub fn new(inner: B) -> Self
         ensures holds { result.inner ≡ inner }
-        ensures faithful { Faithful B.device inner result }
+        ensures faithful { Faithful ROOM B.device inner result }
     {
-        Recorder {
+        Recording {
             inner,
             log: AccessLog::new(),
         }
     }
 }
 
-impl<B> Recorder<B> {
+impl<B, const ROOM: usize> Recording<B, ROOM> {
     /// What was recorded.
-    pub fn log(&self) -> &AccessLog
+    pub fn log(&self) -> &AccessLog<ROOM>
         ensures { result.now ≡ self.now.log }
     {
         &self.log
     }
+
+    /// Forgets what was recorded.
+    pub fn clear(&mut self)
+        ensures device { self.new.inner ≡ self.old.inner }
+        ensures empty { Holds ROOM self.new.log [] }
+    {
+        self.log.clear();
+    }
 }
 
-impl<B: Backend> Backend for Recorder<B> {
-    ghost device = { recorded B.Backend.device };
+impl<B: Backend, const ROOM: usize> Backend for Recording<B, ROOM> {
+    ghost device = { recorded ROOM B.Backend.device };
 
     fn read(&mut self, offset: u8) -> u8 {
         let value = self.inner.read(offset);
         if offset < 8 {
-            self.log.note(Access {
-                kind: Kind::Read,
-                offset,
-                value,
-            });
+            self.log.note(Access::read(offset, value));
         }
         value
     }
@@ -56,16 +65,12 @@ impl<B: Backend> Backend for Recorder<B> {
     fn write(&mut self, offset: u8, value: u8) {
         self.inner.write(offset, value);
         if offset < 8 {
-            self.log.note(Access {
-                kind: Kind::Write,
-                offset,
-                value,
-            });
+            self.log.note(Access::write(offset, value));
         }
     }
 }
 
-impl<C: Chip> Chip for Recorder<C> {
+impl<C: Chip, const ROOM: usize> Chip for Recording<C, ROOM> {
     ghost meaning = { λ s. C.Chip.meaning s.inner };
 
     ghost keeps = { Prim.search rules };

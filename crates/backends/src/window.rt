@@ -29,7 +29,7 @@ impl<B: Backend> Window<B> {
         ensures made { (result.place.base ≡ place.base) × (result.place.stride ≡ 1) × (result.backend ≡ backend) }
         ensures shows { Shows B.device result }
     {
-        Window::new(place.widened(), backend)
+        Window::new(MmioPlace::from(place), backend)
     }
 }
 
@@ -46,10 +46,15 @@ impl<B: Backend> Space for Window<B> {
     ghost bus = { windowed B.Backend.device };
 
     fn read(&mut self, address: u64) -> u8 {
-        self.backend.read(self.place.offset_of(address))
+        match self.place.offset_of(address) {
+            Some(offset) => self.backend.read(offset),
+            None => 0xFF,
+        }
     }
 
     fn write(&mut self, address: u64, value: u8) {
-        self.backend.write(self.place.offset_of(address), value);
+        if let Some(offset) = self.place.offset_of(address) {
+            self.backend.write(offset, value);
+        }
     }
 }

@@ -1,28 +1,10 @@
 //! Accesses through stacks of adapters.
 
 use backends::{
-    Access, Backend, Kind, MmioBackend, MmioPlace, Pair, PioBackend, PortPlace, Recorder, Script,
-    Space, Window,
+    Access, Backend, MmioBackend, MmioPlace, Pair, PioBackend, PortPlace, Recorder, Script, Space,
+    Window,
 };
 use std::test::Fail;
-
-/// A read that gave a byte.
-const fn read(offset: u8, value: u8) -> Access {
-    Access {
-        kind: Kind::Read,
-        offset,
-        value,
-    }
-}
-
-/// A write of a byte.
-const fn write(offset: u8, value: u8) -> Access {
-    Access {
-        kind: Kind::Write,
-        offset,
-        value,
-    }
-}
 
 #[test]
 fn through_the_whole_stack(rt: HostRuntime) -> Result<(), Fail> {
@@ -38,7 +20,12 @@ fn through_the_whole_stack(rt: HostRuntime) -> Result<(), Fail> {
     // behind the end of the script
     assert_eq!(rt; device.read(1), 0xFF);
     assert_eq!(rt; device.log().count(), 4);
-    let expected = [read(5, 0x60), write(7, 0x09), read(0, 0x41), read(1, 0xFF)];
+    let expected = [
+        Access::read(5, 0x60),
+        Access::write(7, 0x09),
+        Access::read(0, 0x41),
+        Access::read(1, 0xFF),
+    ];
     assert_eq!(rt; device.log().recorded(), &expected[..]);
     Ok(())
 }
@@ -68,7 +55,12 @@ fn registers_stand_at_their_addresses(rt: HostRuntime) -> Result<(), Fail> {
     space.write(0x1019, 9);
     assert_eq!(rt; space.read(0x101C), 3);
     assert_eq!(rt; space.read(0x1020), 0xFF);
-    let expected = [read(0, 1), read(5, 2), write(6, 9), read(7, 3)];
+    let expected = [
+        Access::read(0, 1),
+        Access::read(5, 2),
+        Access::write(6, 9),
+        Access::read(7, 3),
+    ];
     assert_eq!(rt; space.backend().log().recorded(), &expected[..]);
     Ok(())
 }
@@ -82,7 +74,7 @@ fn ports_stand_side_by_side(rt: HostRuntime) -> Result<(), Fail> {
     assert_eq!(rt; device.read(5), 0x60);
     device.write(7, 0x42);
     device.write(8, 0x42);
-    let expected = [read(5, 0x60), write(7, 0x42)];
+    let expected = [Access::read(5, 0x60), Access::write(7, 0x42)];
     assert_eq!(rt; device.space().backend().log().recorded(), &expected[..]);
     Ok(())
 }
