@@ -1,11 +1,11 @@
 -- The divisor formula of the datasheet: 16 × (prescaler + 1) × rate × divisor = frequency.
-use Rattle.std.specs.Prelude.{◌≡◌, ℕ, ◌+◌, ◌*◌, ◌<◌, ◌≤◌, [], ◌∷◌, Some, None, Option, ◌≢◌}
+use Rattle.std.specs.Prelude.{◌≡◌, ℕ, ◌+◌, ◌*◌, ◌<◌, ◌≤◌, [], ◌∷◌, Option, ◌≢◌}
+use Rattle.std.specs.Option.{unwrap_or}
 use Rattle.registers.specs.Refusal.{Refusal, refusal, amount, optional}
 
 -- the prescaler in the formula: 0 where there is none
 abbrev pub prescaled : Option ℕ → ℕ
-prescaled None = 0
-prescaled (Some p) = p
+prescaled p = unwrap_or p 0
 
 -- d is the divisor of the rate r at the frequency f with the prescaler p
 pub record DivisorOf (f r : ℕ) (p : Option ℕ) (d : ℕ) : Type 0 where

@@ -9,6 +9,7 @@ pub mod Config
 pub mod Refusal
 pub mod Divisor
 pub mod Rate
+pub mod Quotient
 pub mod Divisors
 pub mod Dump
 pub mod Examples

@@ -1,8 +1,9 @@
 //! The divisor formula: 16 × (prescaler + 1) × rate × divisor = frequency.
 
 ghost use Rattle.std.specs.Prelude.{◌≡◌, ℕ, ◌+◌, ◌*◌, ◌<◌, ◌≤◌, Some, None, Ok, Err};
-ghost use Rattle.registers.specs.Divisor.{DivisorOf, NoDivisor, NoQuotient, prescaled};
+ghost use Rattle.registers.specs.Divisor.{DivisorOf, NoDivisor, prescaled};
 ghost use Rattle.registers.specs.Examples.{WorkedExamples};
+ghost use Rattle.registers.specs.Quotient.{IsQuotient, quotient_refusal};
 ghost use Rattle.registers.specs.Rate.{RateOf, NoRate};
 ghost use Rattle.registers.specs.Refusal.{baud_refusal, divisor_refusal};
 
@@ -15,31 +16,92 @@ pub const CLK_FREQUENCY_HZ: u32 = 1_843_200;
 /// The largest divisor that its two bytes hold.
 pub const MAX_DIVISOR: u32 = 65_535;
 
-/// The prescaler as the formula has it: 0 where there is none.
-fn prescale(prescaler_division_factor: Option<u32>) -> u32
-    ensures { result ≡ prescaled prescaler_division_factor }
-{
-    match prescaler_division_factor {
-        None => 0,
-        Some(p) => p,
+/// Why the formula has no quotient: the question that is answered no.
+#[derive(Clone, Copy)]
+enum QuotientError {
+    ZeroFrequency,
+    ZeroFactor,
+    InvalidPrescaler,
+    NonInteger {
+        frequency: u32,
+        factor: u32,
+        prescaler_division_factor: Option<u32>,
+    },
+}
+
+impl From<QuotientError> for InvalidDivisorError {
+    ghost from_gives = { λ e r. divisor_refusal r ≡ quotient_refusal 4 6 e };
+
+    fn from(e: QuotientError) -> Self {
+        match e {
+            QuotientError::ZeroFrequency => Self::ZeroFrequency,
+            QuotientError::ZeroFactor => Self::ZeroBaudRate,
+            QuotientError::InvalidPrescaler => Self::InvalidPrescaler,
+            QuotientError::NonInteger {
+                frequency,
+                factor,
+                prescaler_division_factor,
+            } => Self::NonInteger(NonIntegerDivisorError {
+                frequency,
+                baud_rate: factor,
+                prescaler_division_factor,
+            }),
+        }
+    }
+}
+
+impl From<QuotientError> for InvalidBaudRateError {
+    ghost from_gives = { λ e r. baud_refusal r ≡ quotient_refusal 18 19 e };
+
+    fn from(e: QuotientError) -> Self {
+        match e {
+            QuotientError::ZeroFrequency => Self::ZeroFrequency,
+            QuotientError::ZeroFactor => Self::ZeroDivisor,
+            QuotientError::InvalidPrescaler => Self::InvalidPrescaler,
+            QuotientError::NonInteger {
+                frequency,
+                factor,
+                prescaler_division_factor,
+            } => Self::NonInteger(NonIntegerBaudRateError {
+                frequency,
+                divisor: factor,
+                prescaler_division_factor,
+            }),
+        }
     }
 }
 
 /// The number n with 16 × (prescaler + 1) × factor × n = frequency, where there is one.
-fn quotient(frequency: u32, factor: u32, prescaler: u32) -> Option<u32>
-    requires { (prescaler ≤ 15) × (0 < factor) }
+fn quotient(
+    frequency: u32,
+    factor: u32,
+    prescaler_division_factor: Option<u32>,
+) -> Result<u32, QuotientError>
     ensures { elim result [
-      | Some n ↦ 16 * (prescaler + 1) * factor * n ≡ frequency
-      | None ↦ NoQuotient frequency factor prescaler
+      | Ok n ↦ IsQuotient frequency factor prescaler_division_factor n
+      | Err e ↦ NoDivisor frequency factor prescaler_division_factor (quotient_refusal 4 6 e) × NoRate frequency factor prescaler_division_factor (quotient_refusal 18 19 e)
     ] }
 {
+    if frequency == 0 {
+        return Err(QuotientError::ZeroFrequency);
+    }
+    if factor == 0 {
+        return Err(QuotientError::ZeroFactor);
+    }
+    let prescaler = prescaler_division_factor.unwrap_or(0);
+    if prescaler > 15 {
+        return Err(QuotientError::InvalidPrescaler);
+    }
     let unit = 16 * (u64::from(prescaler) + 1) * u64::from(factor);
     let n = u64::from(frequency) / unit;
-    if n * unit == u64::from(frequency) {
-        Some(n as u32)
-    } else {
-        None
+    if n * unit != u64::from(frequency) {
+        return Err(QuotientError::NonInteger {
+            frequency,
+            factor,
+            prescaler_division_factor,
+        });
     }
+    Ok(n as u32)
 }
 
 /// The divisor for a rate: the d from 1 to 65,535 with 16 × (p + 1) × rate × d = frequency.
@@ -55,23 +117,7 @@ pub fn calc_divisor(
       | Err e ↦ NoDivisor frequency baud_rate prescaler_division_factor (divisor_refusal e)
     ] }
 {
-    if frequency == 0 {
-        return Err(InvalidDivisorError::ZeroFrequency);
-    }
-    if baud_rate == 0 {
-        return Err(InvalidDivisorError::ZeroBaudRate);
-    }
-    let prescaler = prescale(prescaler_division_factor);
-    if prescaler > 15 {
-        return Err(InvalidDivisorError::InvalidPrescaler);
-    }
-    let Some(divisor) = quotient(frequency, baud_rate, prescaler) else {
-        return Err(InvalidDivisorError::NonInteger(NonIntegerDivisorError {
-            frequency,
-            baud_rate,
-            prescaler_division_factor,
-        }));
-    };
+    let divisor = quotient(frequency, baud_rate, prescaler_division_factor)?;
     if divisor > MAX_DIVISOR {
         return Err(InvalidDivisorError::OutOfRange { divisor });
     }
@@ -91,23 +137,7 @@ pub fn calc_baud_rate(
       | Err e ↦ NoRate frequency divisor prescaler_division_factor (baud_refusal e)
     ] }
 {
-    if frequency == 0 {
-        return Err(InvalidBaudRateError::ZeroFrequency);
-    }
-    if divisor == 0 {
-        return Err(InvalidBaudRateError::ZeroDivisor);
-    }
-    let prescaler = prescale(prescaler_division_factor);
-    if prescaler > 15 {
-        return Err(InvalidBaudRateError::InvalidPrescaler);
-    }
-    let Some(rate) = quotient(frequency, divisor, prescaler) else {
-        return Err(InvalidBaudRateError::NonInteger(NonIntegerBaudRateError {
-            frequency,
-            divisor,
-            prescaler_division_factor,
-        }));
-    };
+    let rate = quotient(frequency, divisor, prescaler_division_factor)?;
     Ok(rate)
 }
 
@@ -115,7 +145,7 @@ pub fn calc_baud_rate(
 pub fn calc_frequency(baud_rate: u32, divisor: u32, prescaler_division_factor: Option<u32>) -> u128
     ensures { result ≡ 16 * (prescaled prescaler_division_factor + 1) * baud_rate * divisor }
 {
-    let prescaler = u128::from(prescale(prescaler_division_factor));
+    let prescaler = u128::from(prescaler_division_factor.unwrap_or(0));
     16 * (prescaler + 1) * u128::from(baud_rate) * u128::from(divisor)
 }
 

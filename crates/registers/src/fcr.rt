@@ -1,11 +1,13 @@
 //! The FIFO control register: write-only, at offset 2. Bit 5 is reserved.
 
-ghost use Rattle.std.specs.Prelude.{◌≡◌, ◌%◌};
+ghost use Rattle.std.specs.Prelude.{◌≡◌, ℕ, ◌%◌};
+ghost use Rattle.std.proofs.Common.{rules, lit<, lit≤};
 ghost use Rattle.registers.specs.Fields.{field_at, FieldSet};
 ghost use Rattle.registers.specs.Fifo.{trigger_code, fifo_control};
 ghost use Rattle.registers.specs.declared.fcr.FifoTriggerLevel.{FifoTriggerLevel as Level};
 
-use crate::fields::{field, set_field};
+use crate::coded::{Coded, read, write};
+use crate::fields::Field;
 
 /// Turns both FIFOs on. The other bits, but for `ENABLE_DMA_END`, count only with this one.
 pub const FIFO_ENABLE: u8 = 1 << 0;
@@ -64,11 +66,31 @@ impl FifoTriggerLevel {
     }
 }
 
+impl Coded for FifoTriggerLevel {
+    const FIELD: Field = Field { place: 6, width: 2 };
+
+    ghost FIELD = { record { place = 6; width = 2; inside = record { starts = lit< tt; narrow = lit< tt; ends = lit≤ tt } } };
+
+    ghost code = { trigger_code };
+
+    ghost stands_for = { λ n. n };
+
+    fn from_code(bits: u8) -> Self {
+        Self::from_raw_bits(bits)
+    }
+
+    fn code(self) -> u8 {
+        self.to_raw_bits()
+    }
+
+    ghost laws = { Prim.search rules };
+}
+
 /// The trigger level in the byte.
 pub fn fifo_trigger_level(fcr: u8) -> FifoTriggerLevel
     ensures { trigger_code result ≡ field_at 6 2 fcr }
 {
-    FifoTriggerLevel::from_raw_bits(field(fcr, 6, 2))
+    read::<FifoTriggerLevel>(fcr)
 }
 
 /// The byte with this trigger level, which reads back; bits 0 to 5 stay.
@@ -76,7 +98,7 @@ pub fn set_fifo_trigger_level(fcr: u8, level: FifoTriggerLevel) -> u8
     ensures sets { FieldSet 6 2 (trigger_code level) fcr result }
     ensures back { (l : Level) → trigger_code l ≡ field_at 6 2 result → l ≡ level }
 {
-    set_field(fcr, 6, 2, level.to_raw_bits())
+    write::<FifoTriggerLevel>(fcr, level)
 }
 
 /// The byte that resets both FIFOs and, with a level, turns them on.

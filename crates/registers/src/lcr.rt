@@ -1,12 +1,14 @@
 //! The line control register: the frame of a character, break, and access to the divisor.
 
-ghost use Rattle.std.specs.Prelude.{◌≡◌, ◌%◌};
+ghost use Rattle.std.specs.Prelude.{◌≡◌, ℕ, ◌%◌};
+ghost use Rattle.std.proofs.Common.{rules, lit<, lit≤};
 ghost use Rattle.registers.specs.Fields.{field_at, FieldSet};
 ghost use Rattle.registers.specs.Frame.{word_code, word_bits, word_bits_or_8, parity_code, parity_bits, frame as framed};
 ghost use Rattle.registers.specs.declared.lcr.Parity.{Parity as Kind};
 ghost use Rattle.registers.specs.declared.lcr.WordLength.{WordLength as Length};
 
-use crate::fields::{field, set_field};
+use crate::coded::{Coded, read, write};
+use crate::fields::Field;
 
 /// The low bit of the word length.
 pub const WORD_LENGTH0: u8 = 1 << 0;
@@ -89,6 +91,26 @@ impl WordLength {
     }
 }
 
+impl Coded for WordLength {
+    const FIELD: Field = Field { place: 0, width: 2 };
+
+    ghost FIELD = { record { place = 0; width = 2; inside = record { starts = lit< tt; narrow = lit< tt; ends = lit≤ tt } } };
+
+    ghost code = { word_code };
+
+    ghost stands_for = { λ n. n };
+
+    fn from_code(bits: u8) -> Self {
+        Self::from_raw_bits(bits)
+    }
+
+    fn code(self) -> u8 {
+        self.to_raw_bits()
+    }
+
+    ghost laws = { Prim.search rules };
+}
+
 /// The parity bit of a character.
 #[derive(Clone, Copy, Debug, PartialEq, Eq)]
 pub enum Parity {
@@ -133,11 +155,31 @@ impl Parity {
     }
 }
 
+impl Coded for Parity {
+    const FIELD: Field = Field { place: 3, width: 3 };
+
+    ghost FIELD = { record { place = 3; width = 3; inside = record { starts = lit< tt; narrow = lit< tt; ends = lit≤ tt } } };
+
+    ghost code = { parity_code };
+
+    ghost stands_for = { parity_bits };
+
+    fn from_code(bits: u8) -> Self {
+        Self::from_raw_bits(bits)
+    }
+
+    fn code(self) -> u8 {
+        self.to_raw_bits()
+    }
+
+    ghost laws = { Prim.search rules };
+}
+
 /// The word length in the byte.
 pub fn word_length(lcr: u8) -> WordLength
     ensures { word_code result ≡ field_at 0 2 lcr }
 {
-    WordLength::from_raw_bits(field(lcr, 0, 2))
+    read::<WordLength>(lcr)
 }
 
 /// The byte with this word length, which reads back; bits 2 to 7 stay.
@@ -145,14 +187,14 @@ pub fn set_word_length(lcr: u8, value: WordLength) -> u8
     ensures sets { FieldSet 0 2 (word_code value) lcr result }
     ensures back { (w : Length) → word_code w ≡ field_at 0 2 result → w ≡ value }
 {
-    set_field(lcr, 0, 2, value.to_raw_bits())
+    write::<WordLength>(lcr, value)
 }
 
 /// The parity in the byte. (The plain name would be the type's in small letters.)
 pub fn parity_of(lcr: u8) -> Parity
     ensures { parity_code result ≡ parity_bits (field_at 3 3 lcr) }
 {
-    Parity::from_raw_bits(field(lcr, 3, 3))
+    read::<Parity>(lcr)
 }
 
 /// The byte with this parity, which reads back; bits 0 to 2 and bits 6 and 7 stay.
@@ -160,7 +202,7 @@ pub fn set_parity(lcr: u8, value: Parity) -> u8
     ensures sets { FieldSet 3 3 (parity_code value) lcr result }
     ensures back { (p : Kind) → parity_code p ≡ parity_bits (field_at 3 3 result) → p ≡ value }
 {
-    set_field(lcr, 3, 3, value.to_raw_bits())
+    write::<Parity>(lcr, value)
 }
 
 /// The byte for this frame, with break and divisor access off.

@@ -3,6 +3,7 @@
 
 #![tactic(auto)]
 
+mod coded;
 pub mod config;
 pub mod divisor;
 pub mod divisors;

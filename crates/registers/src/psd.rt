@@ -4,7 +4,7 @@
 ghost use Rattle.std.specs.Prelude.{◌≡◌, ◌%◌};
 ghost use Rattle.registers.specs.Fields.{field_at, FieldSet};
 
-use crate::fields::{field, set_field};
+use crate::fields::Field;
 
 /// Bit 0 of the division factor.
 pub const PDF0: u8 = 1 << 0;
@@ -23,16 +23,20 @@ pub const _RESERVED2: u8 = 1 << 6;
 /// Reserved.
 pub const _RESERVED3: u8 = 1 << 7;
 
+// Not `Coded`: a factor is any byte, of which the field holds the low four bits, so its codes tell no
+// two bytes apart.
+const PDF: Field = Field { place: 0, width: 4 };
+
 /// The division factor in the byte.
 pub fn pdf(psd: u8) -> u8
     ensures { result ≡ field_at 0 4 psd }
 {
-    field(psd, 0, 4)
+    PDF.read(psd)
 }
 
 /// The byte with the low four bits of this division factor; bits 4 to 7 stay.
 pub fn set_pdf(psd: u8, pdf: u8) -> u8
     ensures { FieldSet 0 4 (pdf % 16) psd result }
 {
-    set_field(psd, 0, 4, pdf % 16)
+    PDF.write(psd, pdf % 16)
 }
