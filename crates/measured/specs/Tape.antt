@@ -1,14 +1,18 @@
 -- A scripted device that keeps a sum over what is written.
+use Rattle.std.specs.Prelude.{ℕ, ◌+◌, cond, List, length, nat_lt, slice_index_or}
 use Rattle.backends.specs.Device.{Device}
-use Rattle.backends.specs.Script.{scripted, advanced}
 use Rattle.measured.specs.declared.tape.Tape.{Tape}
 use Rattle.measured.specs.Sum.{mixed}
 
--- each read takes the next byte, whatever the register; each write enters the sum
+-- how many bytes are read after a read that begins with `at` of them read
+abbrev pub advanced : List ℕ → ℕ → ℕ
+advanced bytes at = cond (nat_lt at (length bytes)) (at + 1) at
+
+-- each read takes the next byte, whatever the register, and 0xFF after the last; each write enters the sum
 abbrev pub tape_device : Device Tape
 tape_device = record {
   reader = record {
-    gives = λ s k. scripted s.bytes.now s.at;
+    gives = λ s k. slice_index_or s.bytes.now s.at 0xFF;
     next = λ s k. record { bytes = s.bytes; at = advanced s.bytes.now s.at; sum = s.sum };
   };
   write = λ s k v. record { bytes = s.bytes; at = s.at; sum = mixed s.sum k v };

@@ -9,3 +9,4 @@ mod seen;
 mod simulated;
 mod small_chip;
 mod tape;
+mod watched;

@@ -11,24 +11,18 @@ use registers::config::{BaudRate, Config};
 pub fn receive<B: Backend>(uart: &mut Uart16550<B>, buffer: &mut [u8], places: usize) -> usize
     ensures { result ≤ length buffer.old }
 {
-    let size = places.max(1);
-    if size > buffer.len() {
-        return 0;
+    let mut received = 0;
+    for piece in buffer.chunks_exact_mut(places.max(1)) {
+        received += uart.receive_bytes(piece);
     }
-    let last = buffer.len() - size;
-    let mut done = 0;
-    let mut at = 0;
-    while at <= last {
-        done += uart.receive_bytes(&mut buffer[at..at + size]);
-        at += size;
-    }
-    done
+    received
 }
 
 /// Sends a record so many times, and answers how often it was taken whole with no fruitless poll.
 pub fn send<B: Backend>(uart: &mut Uart16550<B>, record: &[u8], rounds: usize) -> usize
     ensures { result ≤ rounds }
 {
+    // a chain with `filter` and `count` was measured at 1.15 times the Rust's instructions, not 1.10
     let mut done = 0;
     for _round in 0..rounds {
         if uart.send_bytes_exact(record, 0).result.is_ok() {
@@ -42,15 +36,12 @@ pub fn send<B: Backend>(uart: &mut Uart16550<B>, record: &[u8], rounds: usize) -
 pub fn init<B: Backend>(uart: &mut Uart16550<B>, rates: &[u32]) -> usize
     ensures { result ≤ length rates.now }
 {
-    let mut done = 0;
-    for rate in rates {
-        let config = Config {
+    rates
+        .iter()
+        .map(|rate| Config {
             baud_rate: BaudRate::Custom(*rate),
             ..Config::DEFAULT
-        };
-        if uart.init(config, 0).result.is_ok() {
-            done += 1;
-        }
-    }
-    done
+        })
+        .filter(|config| uart.init(*config, 0).result.is_ok())
+        .count()
 }

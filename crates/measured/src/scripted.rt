@@ -5,17 +5,17 @@ ghost use Rattle.std.specs.Prelude.{◌≤◌, length};
 use crate::runs;
 use crate::seen::Seen;
 use crate::tape::Tape;
-use driver::Uart16550;
+use crate::watched::watch;
 
 /// Receives into a buffer, so many places a call.
 #[unsafe(no_mangle)]
 pub extern "C" fn receive_scripted(script: &[u8], buffer: &mut [u8], places: usize) -> Seen
     ensures { result.done ≤ length buffer.old }
 {
-    let mut uart = Uart16550::new_with_backend(Tape::new(script));
-    let done = runs::receive(&mut uart, buffer, places);
-    let lsr = uart.lsr();
-    uart.backend().seen(done, lsr)
+    watch(
+        Tape::new(script),
+        |uart| runs::receive(uart, buffer, places),
+    )
 }
 
 /// Sends a record so many times.
@@ -23,10 +23,7 @@ pub extern "C" fn receive_scripted(script: &[u8], buffer: &mut [u8], places: usi
 pub extern "C" fn send_scripted(script: &[u8], bytes: &[u8], rounds: usize) -> Seen
     ensures { result.done ≤ rounds }
 {
-    let mut uart = Uart16550::new_with_backend(Tape::new(script));
-    let done = runs::send(&mut uart, bytes, rounds);
-    let lsr = uart.lsr();
-    uart.backend().seen(done, lsr)
+    watch(Tape::new(script), |uart| runs::send(uart, bytes, rounds))
 }
 
 /// Sets the device up once for each rate.
@@ -34,8 +31,5 @@ pub extern "C" fn send_scripted(script: &[u8], bytes: &[u8], rounds: usize) -> S
 pub extern "C" fn init_scripted(script: &[u8], rates: &[u32]) -> Seen
     ensures { result.done ≤ length rates.now }
 {
-    let mut uart = Uart16550::new_with_backend(Tape::new(script));
-    let done = runs::init(&mut uart, rates);
-    let lsr = uart.lsr();
-    uart.backend().seen(done, lsr)
+    watch(Tape::new(script), |uart| runs::init(uart, rates))
 }

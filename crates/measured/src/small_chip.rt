@@ -3,7 +3,8 @@
 ghost use Rattle.std.specs.Prelude.{◌<◌, ◌≡◌};
 ghost use Rattle.measured.specs.SmallChip.{quiet, arrived, status, oldest, taken, identity, stored, chip_device};
 
-use crate::seen::{Seen, mix};
+use crate::seen::mix;
+use crate::watched::Watched;
 use backends::Backend;
 use registers::offsets;
 
@@ -12,6 +13,7 @@ use registers::offsets;
 /// keep what is written, only the wired bits can be read back.
 #[derive(Drop)]
 pub struct SmallChip {
+    // the ring of the chip that the Rust's driver runs on, so that both chips do the same work
     ring: [u8; 16],
     head: u8,
     tail: u8,
@@ -34,18 +36,6 @@ impl SmallChip {
             registers: [0; 8],
             wired,
             sum: 0,
-        }
-    }
-
-    /// What the chip saw of a run: the place is the number of characters left on the line.
-    pub fn seen(&self, done: usize, lsr: u8) -> Seen
-        ensures { (result.done ≡ done) × (result.place ≡ self.now.left) × (result.sum ≡ self.now.sum) × (result.lsr ≡ lsr) }
-    {
-        Seen {
-            done,
-            place: self.left,
-            sum: self.sum,
-            lsr,
         }
     }
 
@@ -111,22 +101,34 @@ impl Backend for SmallChip {
         if offset >= 8 {
             return 0xFF;
         }
-        if offset == offsets::DATA {
-            return self.take();
+        match offset {
+            offsets::DATA => self.take(),
+            offsets::LSR => {
+                self.arrive();
+                self.status()
+            }
+            offsets::ISR => self.identity(),
+            _ => self.registers[offset as usize] & self.wired,
         }
-        if offset == offsets::LSR {
-            self.arrive();
-            return self.status();
-        }
-        if offset == offsets::ISR {
-            return self.identity();
-        }
-        self.registers[offset as usize] & self.wired
     }
 
     fn write(&mut self, offset: u8, value: u8) {
         if offset < 8 {
             self.store(offset, value);
         }
+    }
+}
+
+impl Watched for SmallChip {
+    ghost place = { λ s. s.left };
+
+    ghost sum = { λ s. s.sum };
+
+    fn place(&self) -> usize {
+        self.left
+    }
+
+    fn sum(&self) -> u32 {
+        self.sum
     }
 }

@@ -3,12 +3,14 @@
 ghost use Rattle.measured.specs.Tape.{tape_device};
 ghost use Rattle.std.specs.Prelude.{◌≡◌};
 
-use crate::seen::{Seen, mix};
+use crate::seen::mix;
+use crate::watched::Watched;
 use backends::Backend;
 
 /// A device that answers each read with the next byte of a list, and with 0xFF after its end.
 #[derive(Drop)]
 pub struct Tape<'a> {
+    // an index, which tells how many were read: a rest would need the first length beside it
     bytes: &'a [u8],
     at: usize,
     sum: u32,
@@ -23,18 +25,6 @@ impl<'a> Tape<'a> {
             bytes,
             at: 0,
             sum: 0,
-        }
-    }
-
-    /// What the tape saw of a run: the place is the number of bytes read.
-    pub fn seen(&self, done: usize, lsr: u8) -> Seen
-        ensures { (result.done ≡ done) × (result.place ≡ self.now.at) × (result.sum ≡ self.now.sum) × (result.lsr ≡ lsr) }
-    {
-        Seen {
-            done,
-            place: self.at,
-            sum: self.sum,
-            lsr,
         }
     }
 }
@@ -55,5 +45,19 @@ impl<'a> Backend for Tape<'a> {
         if offset < 8 {
             self.sum = mix(self.sum, offset, value);
         }
+    }
+}
+
+impl<'a> Watched for Tape<'a> {
+    ghost place = { λ s. s.at };
+
+    ghost sum = { λ s. s.sum };
+
+    fn place(&self) -> usize {
+        self.at
+    }
+
+    fn sum(&self) -> u32 {
+        self.sum
     }
 }

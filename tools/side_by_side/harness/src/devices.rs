@@ -110,17 +110,15 @@ impl Backend for SmallChip {
         if offset >= 8 {
             return 0xFF;
         }
-        if offset == 0 {
-            return self.take();
+        match offset {
+            0 => self.take(),
+            5 => {
+                self.arrive();
+                self.status()
+            }
+            2 => self.identity(),
+            _ => self.registers[offset as usize] & self.wired,
         }
-        if offset == 5 {
-            self.arrive();
-            return self.status();
-        }
-        if offset == 2 {
-            return self.identity();
-        }
-        self.registers[offset as usize] & self.wired
     }
 
     unsafe fn write(&mut self, offset: u8, value: u8) {

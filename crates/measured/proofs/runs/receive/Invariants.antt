@@ -1,10 +1,7 @@
-use Prim.Native.Nat.{◌-◌, ◌≤◌}
-use lib.ListN.{length}
+use Rattle.std.proofs.Common.{◌+◌, ◌≤◌, length}
+use Rattle.std.specs.Slice.Iter.{chunks_exact_mut_rest}
 use Rattle.measured.proofs.runs.receive.Given as goal
 
--- no more characters came than places were offered
-abbrev pub invariant-loop-at : goal.invariant-loop-at
-invariant-loop-at g l = (l.done ≤ l.at) × (l.at ≤ length l.initial.buffer)
-
-abbrev pub decreases-loop-at : goal.decreases-loop-at
-decreases-loop-at g l = length l.initial.buffer - l.at
+-- with a character for each place that is left, no more came than there are places
+abbrev pub invariant-loop-piece : goal.invariant-loop-piece
+invariant-loop-piece g l = l.received + length (chunks_exact_mut_rest l.piece-iterator) ≤ length l.fn.buffer
