@@ -3,6 +3,8 @@
 ghost use Rattle.throughput.specs.Sums.{joined, with_byte};
 ghost use Rattle.std.specs.Prelude.{◌≡◌};
 
+use std::ops::AddAssign;
+
 /// How many bytes there were, and the sum of all bytes, each times its place counted from 1.
 #[derive(Clone, Copy)]
 pub struct Checksum {
@@ -24,25 +26,27 @@ impl Checksum {
             .wrapping_add(self.count.wrapping_mul(u64::from(byte)));
     }
 
-    /// The first `n` of these bytes more.
-    pub fn put_first(&mut self, n: usize, bytes: &[u8]) {
-        for byte in bytes.iter().take(n) {
+    /// These bytes more.
+    pub fn put_all(&mut self, bytes: &[u8]) {
+        for byte in bytes {
             self.put(*byte);
         }
-    }
-
-    /// The counts and the sums of both.
-    pub fn add(&mut self, other: Checksum)
-        ensures { self.new ≡ joined self.old other }
-    {
-        self.count = self.count.wrapping_add(other.count);
-        self.sum = self.sum.wrapping_add(other.sum);
     }
 
     /// The checksum of these bytes alone.
     pub fn of(bytes: &[u8]) -> Checksum {
         let mut checksum = Checksum::NONE;
-        checksum.put_first(bytes.len(), bytes);
+        checksum.put_all(bytes);
         checksum
+    }
+}
+
+/// The counts and the sums of both.
+impl AddAssign for Checksum {
+    ghost add_assign_gives = { λ s t r. r ≡ joined s t };
+
+    fn add_assign(&mut self, other: Checksum) {
+        self.count = self.count.wrapping_add(other.count);
+        self.sum = self.sum.wrapping_add(other.sum);
     }
 }

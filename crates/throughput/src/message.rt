@@ -46,11 +46,7 @@ fn gap_at(arrival: Arrival, place: u16) -> u8
 pub fn message(heap: Global) -> Result<Vec<u8>, AllocError>
     ensures { IfOk result (λ v. (vec_len v ≡ 50000) × ((k : ℕ) → k < 50000 → slice_index v.items k ≡ byte_of k)) }
 {
-    let mut bytes = Vec::new(heap);
-    for place in 0..LENGTH {
-        bytes.push(byte_at(place))?;
-    }
-    Ok(bytes)
+    (0..LENGTH).map(byte_at).collect(heap)
 }
 
 /// The entry at this place of a tape, without errors.
@@ -72,9 +68,7 @@ fn entry_at(arrival: Arrival, place: u16) -> TapeEntry
 pub fn tape(heap: Global, arrival: Arrival) -> Result<Vec<TapeEntry>, AllocError>
     ensures { IfOk result (λ v. (vec_len v ≡ 50000) × ((k : ℕ) (d : Entry) → k < 50000 → slice_index_or v.items k d ≡ entry_of arrival k)) }
 {
-    let mut entries = Vec::new(heap);
-    for place in 0..LENGTH {
-        entries.push(entry_at(arrival, place))?;
-    }
-    Ok(entries)
+    (0..LENGTH)
+        .map(|place| entry_at(arrival, place))
+        .collect(heap)
 }

@@ -59,93 +59,109 @@ fn send<B: Backend>(uart: &mut Uart16550<B>, bytes: &[u8]) -> u64 {
     sent
 }
 
-/// Adds what waits to the checksum, at most as much as the buffer holds.
-fn take<B: Backend>(uart: &mut Uart16550<B>, buffer: &mut [u8], received: &mut Checksum) {
-    let n = uart.receive_bytes(buffer);
-    received.put_first(n, buffer);
+/// Adds what waits to the checksum, at most sixteen characters.
+fn take<B: Backend>(uart: &mut Uart16550<B>, received: &mut Checksum) {
+    let mut buffer = [0; FIFO_SIZE];
+    let n = uart.receive_bytes(&mut buffer);
+    received.put_all(&buffer[..n]);
 }
 
 /// Receives as many characters as the message has, at most sixteen to a call.
-fn receive<B: Backend>(uart: &mut Uart16550<B>, buffer: &mut [u8]) -> Checksum {
+fn receive<B: Backend>(uart: &mut Uart16550<B>) -> Checksum {
     let mut received = Checksum::NONE;
     for _ in 0..LENGTH as usize / FIFO_SIZE {
-        take(uart, buffer, &mut received);
+        take(uart, &mut received);
     }
     received
 }
 
 /// Sends the message, sixteen bytes to a call, and after each call receives what came back.
-fn exchange<B: Backend>(
-    uart: &mut Uart16550<B>,
-    bytes: &[u8],
-    buffer: &mut [u8],
-) -> (u64, Checksum) {
+fn exchange<B: Backend>(uart: &mut Uart16550<B>, bytes: &[u8]) -> (u64, Checksum) {
     let mut sent: u64 = 0;
     let mut received = Checksum::NONE;
     for part in bytes.chunks(FIFO_SIZE) {
         sent = sent.wrapping_add(uart.send_bytes(part) as u64);
-        take(uart, buffer, &mut received);
+        take(uart, &mut received);
     }
     (sent, received)
 }
 
-/// The message through a plug, and back.
-fn on_plug(heap: Global, bytes: &[u8]) -> anyhow::Result<Totals> {
-    let mut uart = started(Plug::new(LINES, vec![in heap; 0; LENGTH as usize]?))?;
-    let (sent, received) = exchange(&mut uart, bytes, &mut vec![in heap; 0; FIFO_SIZE]?);
-    let plug = uart.backend();
+/// A simulated chip that tells what became of its characters.
+trait Told: Backend + Drop {
+    /// The bytes that left for the line.
+    fn left(&self) -> &[u8];
+
+    /// How many characters were lost.
+    fn lost(&self) -> u64;
+}
+
+impl Told for Plug {
+    fn left(&self) -> &[u8] {
+        self.carried()
+    }
+
+    fn lost(&self) -> u64 {
+        self.counts().lost
+    }
+}
+
+impl Told for Bench {
+    fn left(&self) -> &[u8] {
+        Bench::left(self)
+    }
+
+    fn lost(&self) -> u64 {
+        self.counts().lost
+    }
+}
+
+/// A run on one chip, which answers how many bytes were taken and what was received.
+fn on_chip<C: Told, R: FnOnce(&mut Uart16550<C>) -> (u64, Checksum)>(
+    chip: C,
+    run: R,
+) -> anyhow::Result<Totals>
+    requires { R.IsAlwaysCallable run }
+{
+    let mut uart = started(chip)?;
+    let (sent, received) = run(&mut uart);
+    let chip = uart.backend();
     Ok(Totals {
         chips: 1,
         sent,
-        left: Checksum::of(plug.carried()),
+        left: Checksum::of(chip.left()),
         received,
-        lost: plug.counts().lost,
+        lost: chip.lost(),
     })
+}
+
+/// The message through a plug, and back.
+fn on_plug(heap: Global, bytes: &[u8]) -> anyhow::Result<Totals> {
+    let plug = Plug::new(LINES, vec![in heap; 0; LENGTH as usize]?);
+    on_chip(plug, |uart| exchange(uart, bytes))
 }
 
 /// The message from a tape.
 fn from_tape(heap: Global, arrival: Arrival) -> anyhow::Result<Totals> {
-    let mut uart = started(bench(heap, tape(heap, arrival)?)?)?;
-    let received = receive(&mut uart, &mut vec![in heap; 0; FIFO_SIZE]?);
-    let chip = uart.backend();
-    Ok(Totals {
-        chips: 1,
-        sent: 0,
-        left: Checksum::of(chip.left()),
-        received,
-        lost: chip.counts().lost,
-    })
+    on_chip(
+        bench(heap, tape(heap, arrival)?)?,
+        |uart| (0, receive(uart)),
+    )
 }
 
 /// The message into a store.
 fn into_store(heap: Global, bytes: &[u8]) -> anyhow::Result<Totals> {
-    let mut uart = started(bench(heap, Vec::new(heap))?)?;
-    let sent = send(&mut uart, bytes);
-    let chip = uart.backend();
-    Ok(Totals {
-        chips: 1,
-        sent,
-        left: Checksum::of(chip.left()),
-        received: Checksum::NONE,
-        lost: chip.counts().lost,
-    })
+    on_chip(
+        bench(heap, Vec::new(heap))?,
+        |uart| (send(uart, bytes), Checksum::NONE),
+    )
 }
 
 /// The message on every chip.
 pub fn all(heap: Global) -> anyhow::Result<Totals> {
     let bytes = message(heap)?;
-    let mut totals = Totals::NONE;
-    for _ in 0..PLUGS {
-        totals.add(on_plug(heap, &bytes)?);
-    }
-    for _ in 0..STORES {
-        totals.add(into_store(heap, &bytes)?);
-    }
-    for _ in 0..STEADY_TAPES {
-        totals.add(from_tape(heap, Arrival::Steady)?);
-    }
-    for _ in 0..BURST_TAPES {
-        totals.add(from_tape(heap, Arrival::Bursts)?);
-    }
-    Ok(totals)
+    let plugs = (0..PLUGS).map(|_| on_plug(heap, &bytes));
+    let stores = (0..STORES).map(|_| into_store(heap, &bytes));
+    let steady = (0..STEADY_TAPES).map(|_| from_tape(heap, Arrival::Steady));
+    let bursts = (0..BURST_TAPES).map(|_| from_tape(heap, Arrival::Bursts));
+    plugs.chain(stores).chain(steady).chain(bursts).sum()
 }

@@ -5,6 +5,8 @@ ghost use Rattle.std.specs.Prelude.{◌≡◌};
 
 use crate::checksum::Checksum;
 use std::fmt;
+use std::iter::Sum;
+use std::ops::AddAssign;
 
 /// What became of the characters on some chips.
 #[derive(Clone, Copy)]
@@ -30,16 +32,29 @@ impl Totals {
         received: Checksum::NONE,
         lost: 0,
     };
+}
 
-    /// Those of some more chips.
-    pub fn add(&mut self, more: Totals)
-        ensures { self.new ≡ added self.old more }
-    {
+/// Those of both.
+impl AddAssign for Totals {
+    ghost add_assign_gives = { λ s t r. r ≡ added s t };
+
+    fn add_assign(&mut self, more: Totals) {
         self.chips = self.chips.wrapping_add(more.chips);
         self.sent = self.sent.wrapping_add(more.sent);
-        self.left.add(more.left);
-        self.received.add(more.received);
+        self.left += more.left;
+        self.received += more.received;
         self.lost = self.lost.wrapping_add(more.lost);
+    }
+}
+
+/// Those of all items.
+impl Sum<Totals> for Totals {
+    fn sum<I: Iterator<Item = Totals>>(iter: I) -> Totals {
+        let mut totals = Totals::NONE;
+        for more in iter {
+            totals += more;
+        }
+        totals
     }
 }
 
