@@ -1,5 +1,5 @@
 -- The parts of the loopback test, one after the other.
-use Rattle.std.proofs.Common.{◌≡◌, ℕ, zero, suc, ◌+◌, ◌-◌, ◌<◌, ◌≤◌, Bool, true, false, cond, List, [], ◌∷◌, ◌++◌, length, get_or, take, drop, Some, None, Option, sym, refl, ap, ◌∙◌, subst, append_assoc, append-nil, zero-add, arith, length-append}
+use Rattle.std.proofs.Common.{◌≡◌, ℕ, zero, suc, ◌+◌, ◌-◌, ◌<◌, ◌≤◌, Bool, true, false, cond, List, [], ◌∷◌, ◌++◌, length, EachIndex, get_or, take, drop, Some, None, Option, sym, refl, ap, ◌∙◌, subst, append_assoc, append-nil, zero-add, arith, length-append}
 use lib.Bits.{bit_and}
 use Rattle.std.proofs.lemmas.List.{drop_all, take_all, take_more}
 use Rattle.registers.specs.declared.error.Wait.{Wait}
@@ -261,23 +261,20 @@ module _ {S : Type 0} (d : Device S) (s t : S) (k l : Kept) (n a : ℕ) where
 
 -- Bytes of which only some bits count
 
-pub masked_append : (m : ℕ) (xs ys : List ℕ) → masked m (xs ++ ys) ≡ masked m xs ++ masked m ys
-masked_append m [] ys = refl
-masked_append m (x ∷ xs) ys = ap (λ l. bit_and x m ∷ l) (masked_append m xs ys)
-
-pub masked_at : (m i : ℕ) (xs : List ℕ) → i < length xs → get_or (masked m xs) i 0 ≡ bit_and (get_or xs i 0) m
+masked_at : (m i : ℕ) (xs : List ℕ) → i < length xs → get_or (masked m xs) i 0 ≡ bit_and (get_or xs i 0) m
 masked_at m i [] h = absurd (omega arith)
 masked_at m zero (x ∷ xs) h = refl
 masked_at m (suc i) (x ∷ xs) h = masked_at m i xs (omega arith)
 
-module _ (m i : ℕ) (xs ys : List ℕ) (h : i < length xs) (g : i < length ys) where
-  pub differ : (bit_and (get_or xs i 0) m ≡ bit_and (get_or ys i 0) m → ⊥) → masked m xs ≡ masked m ys → ⊥
-  differ n e = n (sym (masked_at m i xs h) ∙ ap (λ l. get_or l i 0) e ∙ masked_at m i ys g)
+-- bytes with the same bits at each index are the same under the mask
+pub masked_from_each : (m : ℕ) (xs ys : List ℕ) → length xs ≡ length ys → EachIndex xs (λ i. bit_and (get_or xs i 0) m ≡ bit_and (get_or ys i 0) m)
+    → masked m xs ≡ masked m ys
+masked_from_each m [] [] e f = refl
+masked_from_each m [] (y ∷ ys) e f = absurd (omega arith)
+masked_from_each m (x ∷ xs) [] e f = absurd (omega arith)
+masked_from_each m (x ∷ xs) (y ∷ ys) e f =
+    ap (λ b. b ∷ masked m xs) (f 0 (omega arith)) ∙ ap (λ l. bit_and y m ∷ l) (masked_from_each m xs ys (omega arith) (λ i h. f (suc i) (omega arith)))
 
-  pub same_more : masked m (take i xs) ≡ masked m (take i ys) → bit_and (get_or xs i 0) m ≡ bit_and (get_or ys i 0) m → masked m (take (i + 1) xs) ≡ masked m (take (i + 1) ys)
-  same_more e f =
-      ap (masked m) (take_more xs i 0 h) ∙ masked_append m (take i xs) _ ∙ ap (λ l. l ++ (bit_and (get_or xs i 0) m ∷ [])) e ∙ ap (λ b. masked m (take i ys) ++ (b ∷ [])) f
-      ∙ sym (masked_append m (take i ys) _) ∙ ap (masked m) (sym (take_more ys i 0 g))
-
-pub same_whole : (m i : ℕ) (xs ys : List ℕ) → length xs ≤ i → length ys ≤ i → masked m (take i xs) ≡ masked m (take i ys) → masked m xs ≡ masked m ys
-same_whole m i xs ys h g e = ap (masked m) (sym (take_all i xs h)) ∙ e ∙ ap (masked m) (take_all i ys g)
+pub each_from_masked : (m : ℕ) (xs ys : List ℕ) → length xs ≡ length ys → masked m xs ≡ masked m ys
+    → EachIndex xs (λ i. bit_and (get_or xs i 0) m ≡ bit_and (get_or ys i 0) m)
+each_from_masked m xs ys n e i h = sym (masked_at m i xs h) ∙ ap (λ l. get_or l i 0) e ∙ masked_at m i ys (omega arith)

@@ -26,6 +26,9 @@ pub struct Transferred {
 }
 
 /// The one budget of a call, and the fruitless polls so far.
+// That the count is within the limit is asked for by each function that may wait. It cannot be a
+// fact of the type: a refusal leaves the count at one more than the limit, which is reported.
+// Nor does a type hold a budget with its wait: the budget is the call's, the wait each step's.
 #[derive(Drop)]
 pub struct Budget {
     limit: u16,
@@ -48,6 +51,17 @@ impl Budget {
         ensures { result ≡ self.now.fruitless }
     {
         self.fruitless
+    }
+
+    /// The answer of an exact transfer that ends so, with what this budget counted.
+    pub fn transferred(&self, moved: usize, ended: Result<(), BudgetError>) -> Transferred
+        ensures { result ≡ record { result = ended; fruitless = self.now.fruitless; moved = moved } }
+    {
+        Transferred {
+            result: ended,
+            fruitless: self.fruitless,
+            moved,
+        }
     }
 
     /// Counts one fruitless poll in this wait; refuses where the budget has no place for it.

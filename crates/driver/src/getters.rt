@@ -1,8 +1,9 @@
 //! Looking at registers, and switching interrupts.
 
-ghost use Rattle.std.specs.Prelude.{◌≡◌, ◌-◌, bit_and, bit_or};
-ghost use Rattle.driver.specs.Getters.{Looked, LineLooked, ModemLooked, Connected, DivisorLooked, Switched, Dumped};
-ghost use Rattle.driver.specs.Kept.{kept, verdict};
+ghost use Rattle.std.specs.Prelude.{◌≡◌, ℕ, ◌-◌, [], ◌∷◌, bit_and, bit_or};
+ghost use Rattle.backends.specs.Device.{Runs, rd, wr};
+ghost use Rattle.driver.specs.Getters.{Looked, LineLooked, ModemLooked, Connected, DivisorLooked, Switched, Dumped, with_interrupts};
+ghost use Rattle.driver.specs.Kept.{kept, verdict, with_config};
 ghost use Rattle.registers.specs.Offsets.{at_ier, at_isr, at_lcr, at_mcr, at_spr};
 ghost use Rattle.registers.specs.Refusal.{remote_refusal};
 
@@ -33,19 +34,29 @@ impl<B: Backend> Uart16550<B> {
     pub fn enable_interrupts(&mut self, interrupts: u8)
         ensures { Switched B.device self.old.backend self.new.backend (kept self.old) (kept self.new) (λ v. bit_or v interrupts) }
     {
-        let enabled = self.ier() | interrupts;
-        self.config.interrupts = enabled;
-        self.backend.write(offsets::IER, enabled);
+        self.switch_interrupts(|enabled| enabled | interrupts);
     }
 
     /// Disables these interrupts.
     pub fn disable_interrupts(&mut self, interrupts: u8)
         ensures { Switched B.device self.old.backend self.new.backend (kept self.old) (kept self.new) (λ v. bit_and v (255 - interrupts)) }
     {
-        let enabled = self.ier() & !interrupts;
+        self.switch_interrupts(|enabled| enabled & !interrupts);
+    }
+
+    /// Makes this change of the interrupts that are enabled.
+    fn switch_interrupts<F: FnOnce(u8) -> u8>(&mut self, change: F)
+        requires { F.IsAlwaysCallable change }
+        ensures { (found : ℕ) × (enabled : ℕ) × F.post change found enabled
+            × Runs B.device (rd at_ier found ∷ wr at_ier enabled ∷ []) self.old.backend self.new.backend
+            × (kept self.new ≡ with_config (kept self.old) (with_interrupts self.old.config enabled)) }
+    {
+        let enabled = change(self.ier());
         self.config.interrupts = enabled;
         self.backend.write(offsets::IER, enabled);
     }
+
+    // Each of the plain getters is one read already: a method for all five would only rename it.
 
     /// The interrupt enable register.
     pub fn ier(&mut self) -> u8
@@ -74,6 +85,8 @@ impl<B: Backend> Uart16550<B> {
     {
         self.backend.read(offsets::MCR)
     }
+
+    // The two status getters share no step but the `|`: each has a read and a byte of its own.
 
     /// The line status, with the errors that earlier calls saw; they are then forgotten.
     pub fn lsr(&mut self) -> u8

@@ -1,9 +1,9 @@
 //! The loopback test.
 
-ghost use Rattle.std.specs.Prelude.{◌≡◌, ℕ, ◌+◌, ◌-◌, ◌≤◌, true, false, List, [], ◌∷◌, length, None, ◌≢◌};
+ghost use Rattle.std.specs.Prelude.{◌≡◌, ℕ, ◌+◌, ◌-◌, ◌≤◌, ◌↔◌, IsTrue, EachIndex, List, [], ◌∷◌, length, None, slice_index, bit_and};
 ghost use Rattle.backends.specs.Device.{Runs, rd, wr};
 ghost use Rattle.driver.specs.Kept.{kept, verdict};
-ghost use Rattle.driver.specs.Loopback.{Part, back as came_back, masked, data_mask, settings, Drains, ByteTested, Echoed, MessageEchoed, MessageTested, Looped, LoopTested, Done, Within, InLoop, Left};
+ghost use Rattle.driver.specs.Loopback.{Part, back as came_back, data_mask, settings, Drains, ByteTested, Echoed, MessageEchoed, MessageTested, Looped, LoopTested, Done, Within, InLoop, Left};
 ghost use Rattle.driver.specs.Traces.{Ran, noting};
 ghost use Rattle.registers.specs.Refusal.{budget_refusal, loopback_refusal};
 
@@ -36,17 +36,9 @@ fn mask_of(length: WordLength) -> u8
 /// Whether the bytes have the same bits under the mask.
 fn same_bits(a: &[u8], b: &[u8], mask: u8) -> bool
     requires { length a.now ≡ length b.now }
-    ensures { elim result [
-      | true ↦ masked mask a.now ≡ masked mask b.now
-      | false ↦ (masked mask a.now ≢ masked mask b.now)
-    ] }
+    ensures { IsTrue result ↔ EachIndex a.now (λ i. bit_and (slice_index a.now i) mask ≡ bit_and (slice_index b.now i) mask) }
 {
-    for i in 0..a.len() {
-        if a[i] & mask != b[i] & mask {
-            return false;
-        }
-    }
-    true
+    a.iter().zip(b).all(|(x, y)| x & mask == y & mask)
 }
 
 impl<B: Backend> Uart16550<B> {
@@ -197,10 +189,11 @@ impl<B: Backend> Uart16550<B> {
         if self.fifo_enabled {
             return self.echo(&TEST_MESSAGE, back, budget);
         }
-        for i in 0..16 {
+        // not a zip: what is written to the places that one lends is lost to the proof
+        for (i, place) in back.iter_mut().enumerate() {
             let mut one = [0];
             self.echo(&[TEST_MESSAGE[i]], &mut one, budget)?;
-            back[i] = one[0];
+            *place = one[0];
         }
         Ok(())
     }
@@ -218,9 +211,7 @@ impl<B: Backend> Uart16550<B> {
         ensures room { Within (verdict budget_refusal result) budget.new.fruitless budget.old.limit }
         ensures echoed { Done B.device self.old.backend self.new.backend (kept self.old) (kept self.new) (λ ps. Echoed (settings (kept self.old)) (budget.old.limit - budget.old.fruitless) bytes.now (verdict budget_refusal result) ps × (verdict budget_refusal result ≡ None → back.new ≡ came_back ps)) budget.old.fruitless budget.new.fruitless }
     {
-        let mut taken = 0;
-        self.send_all(bytes, &mut taken, budget, Wait::TestMessageSent)?;
-        let mut got = 0;
-        self.fill(back, &mut got, budget, Wait::TestMessageReceived)
+        self.send_all(bytes, budget, Wait::TestMessageSent).result?;
+        self.fill(back, budget, Wait::TestMessageReceived).result
     }
 }

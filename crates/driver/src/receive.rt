@@ -39,15 +39,13 @@ impl<B: Backend> Uart16550<B> {
     pub fn receive_bytes(&mut self, buffer: &mut [u8]) -> usize
         ensures { Received B.device self.old.backend self.new.backend (kept self.old) (kept self.new) buffer.old buffer.new result }
     {
-        let mut count = 0;
-        for place in buffer.iter_mut() {
+        for (count, place) in buffer.iter_mut().enumerate() {
             let Ok(byte) = self.try_receive_byte() else {
                 return count;
             };
             *place = byte;
-            count += 1;
         }
-        count
+        buffer.len()
     }
 
     /// Fills the whole buffer, waiting for characters. Where more than `budget` tries find none it
@@ -55,35 +53,24 @@ impl<B: Backend> Uart16550<B> {
     pub fn receive_bytes_exact(&mut self, buffer: &mut [u8], budget: u16) -> Transferred
         ensures { ReceivedExactly B.device self.old.backend self.new.backend (kept self.old) (kept self.new) budget Receive buffer.old buffer.new (verdict budget_refusal result.result) result.fruitless result.moved }
     {
-        let mut polls = Budget::new(budget);
-        let mut moved = 0;
-        let result = self.fill(buffer, &mut moved, &mut polls, Wait::Receive);
-        Transferred {
-            result,
-            fruitless: polls.fruitless(),
-            moved,
-        }
+        self.fill(buffer, &mut Budget::new(budget), Wait::Receive)
     }
 
-    /// Fills the whole buffer within a budget that may be partly spent, and counts its places.
-    pub(crate) fn fill(
-        &mut self,
-        buffer: &mut [u8],
-        moved: &mut usize,
-        budget: &mut Budget,
-        wait: Wait,
-    ) -> Result<(), BudgetError>
-        requires room { budget.old.fruitless ≤ budget.old.limit }
-        requires none { moved.old ≡ 0 }
+    /// Fills the whole buffer within a budget that may be partly spent.
+    pub(crate) fn fill(&mut self, buffer: &mut [u8], budget: &mut Budget, wait: Wait) -> Transferred
+        requires { budget.old.fruitless ≤ budget.old.limit }
         ensures limit { budget.new.limit ≡ budget.old.limit }
         ensures spent { budget.old.fruitless ≤ budget.new.fruitless }
-        ensures filled { ReceivedExactly B.device self.old.backend self.new.backend (kept self.old) (kept self.new) (budget.old.limit - budget.old.fruitless) wait buffer.old buffer.new (verdict budget_refusal result) (budget.new.fruitless - budget.old.fruitless) moved.new }
+        ensures counted { result.fruitless ≡ budget.new.fruitless }
+        ensures filled { ReceivedExactly B.device self.old.backend self.new.backend (kept self.old) (kept self.new) (budget.old.limit - budget.old.fruitless) wait buffer.old buffer.new (verdict budget_refusal result.result) (budget.new.fruitless - budget.old.fruitless) result.moved }
     {
-        for place in buffer.iter_mut() {
-            *place = self.receive_waiting(budget, wait)?;
-            *moved += 1;
+        for (moved, place) in buffer.iter_mut().enumerate() {
+            match self.receive_waiting(budget, wait) {
+                Ok(byte) => *place = byte,
+                Err(refusal) => return budget.transferred(moved, Err(refusal)),
+            }
         }
-        Ok(())
+        budget.transferred(buffer.len(), Ok(()))
     }
 
     /// Waits for one character.

@@ -65,38 +65,28 @@ impl<B: Backend> Uart16550<B> {
     pub fn send_bytes_exact(&mut self, bytes: &[u8], budget: u16) -> Transferred
         ensures { SentExactly B.device self.old.backend self.new.backend (kept self.old) (kept self.new) bytes.now budget Send (verdict budget_refusal result.result) result.fruitless result.moved }
     {
-        let mut polls = Budget::new(budget);
-        let mut moved = 0;
-        let result = self.send_all(bytes, &mut moved, &mut polls, Wait::Send);
-        Transferred {
-            result,
-            fruitless: polls.fruitless(),
-            moved,
-        }
+        self.send_all(bytes, &mut Budget::new(budget), Wait::Send)
     }
 
-    /// Sends the whole buffer within a budget that may be partly spent, and counts its bytes.
-    pub(crate) fn send_all(
-        &mut self,
-        bytes: &[u8],
-        moved: &mut usize,
-        budget: &mut Budget,
-        wait: Wait,
-    ) -> Result<(), BudgetError>
-        requires room { budget.old.fruitless ≤ budget.old.limit }
-        requires none { moved.old ≡ 0 }
+    /// Sends the whole buffer within a budget that may be partly spent.
+    pub(crate) fn send_all(&mut self, bytes: &[u8], budget: &mut Budget, wait: Wait) -> Transferred
+        requires { budget.old.fruitless ≤ budget.old.limit }
         ensures limit { budget.new.limit ≡ budget.old.limit }
         ensures spent { budget.old.fruitless ≤ budget.new.fruitless }
-        ensures sent { SentExactly B.device self.old.backend self.new.backend (kept self.old) (kept self.new) bytes.now (budget.old.limit - budget.old.fruitless) wait (verdict budget_refusal result) (budget.new.fruitless - budget.old.fruitless) moved.new }
+        ensures counted { result.fruitless ≡ budget.new.fruitless }
+        ensures sent { SentExactly B.device self.old.backend self.new.backend (kept self.old) (kept self.new) bytes.now (budget.old.limit - budget.old.fruitless) wait (verdict budget_refusal result.result) (budget.new.fruitless - budget.old.fruitless) result.moved }
     {
-        while *moved < bytes.len() {
-            let count = self.send_bytes(&bytes[*moved..]);
+        let mut moved = 0;
+        while moved < bytes.len() {
+            let count = self.send_bytes(&bytes[moved..]);
             if count == 0 {
-                budget.spend(wait)?;
+                if let Err(refusal) = budget.spend(wait) {
+                    return budget.transferred(moved, Err(refusal));
+                }
             }
-            *moved += count;
+            moved += count;
         }
-        Ok(())
+        budget.transferred(moved, Ok(()))
     }
 
     /// Sends one byte; 11 where nothing may be sent, for whatever reason.

@@ -15,6 +15,8 @@ const ERROR_FLAGS: u8 = 0x1E;
 /// The modem status bits that a read clears: the changes of the four lines.
 const CHANGE_INDICATORS: u8 = 0x0F;
 
+// One method for both would take the register, the mask and the saved byte, which are all that a
+// body here has.
 impl<B: Backend> Uart16550<B> {
     /// Reads the line status. The read clears the error bits on the device, so they are saved.
     pub(crate) fn read_lsr(&mut self) -> u8

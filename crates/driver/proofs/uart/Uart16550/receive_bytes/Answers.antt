@@ -5,21 +5,20 @@ use Rattle.driver.proofs.Tries.{no_tries}
 use Rattle.driver.proofs.Filling.{fill_more, fill_short}
 use Rattle.driver.proofs.uart.Uart16550.receive_bytes.Goals as goal
 
-pub loop-place-init : goal.loop-place-init
-loop-place-init g c = ([], no_tries g.B.Backend.device _ _, refl, refl, refl, refl)
+pub loop-count-init : goal.loop-count-init
+loop-count-init g c = ([], no_tries g.B.Backend.device _ _, refl, refl, refl)
 
 pub returns-in_default : goal.returns-in_default
 returns-in_default g c =
-    let i = c.loop-place.invariant in
-    fill_short g.B.Backend.device _ _ _ _ _ _ i.0 c.loop-place.place-index i.1 i.3 i.4 _ _ _ _ c.in_default.ensures i.2 (omega arith) (set-get_or c.loop-place.buffer c.loop-place.place-index 0) i.5
+    let i = c.loop-count.invariant in
+    fill_short g.B.Backend.device _ _ _ _ _ _ i.0 c.loop-count.count i.1 i.3 i.4 _ _ _ _ c.in_default.ensures i.2 (omega arith) (set-get_or c.loop-count.buffer c.loop-count.count 0) refl
 
-pub loop-place-preserved : goal.loop-place-preserved
-loop-place-preserved g c =
-    let i = c.loop-place.invariant in
-    let m = fill_more g.B.Backend.device _ _ _ _ _ _ i.0 c.loop-place.place-index i.1 i.3 i.4 _ _ _ c.in-Ok.ensures i.2 (omega arith) in
-    (m.0, m.1, m.2, m.3, m.4, omega arith)
+pub loop-count-preserved : goal.loop-count-preserved
+loop-count-preserved g c =
+    let i = c.loop-count.invariant in
+    fill_more g.B.Backend.device _ _ _ _ _ _ i.0 c.loop-count.count i.1 i.3 i.4 _ _ _ c.in-Ok.ensures i.2 (omega arith)
 
 pub returns : goal.returns
 returns g c =
-    let i = c.loop-place.invariant in
+    let i = c.loop-count.invariant in
     record { ts = i.0; made = i.1; fills = full i.0 i.2 (omega arith); buffer = i.4; answer = omega arith }

@@ -1,44 +1,38 @@
 use Rattle.std.proofs.Common.{◌≡◌, ℕ, ◌+◌, ◌-◌, ◌≤◌, List, [], ◌++◌, length, take, drop, refl, subst, arith, rules}
-use Rattle.std.proofs.lemmas.Result.{err_from_is_err_and}
 use Rattle.backends.specs.Device.{Device}
 use Rattle.driver.specs.Kept.{Kept}
 use Rattle.driver.specs.Sends.{all, cut, refusals, Sent}
 use Rattle.driver.proofs.Attempting.{no_attempts, more_made, more_sound, more_taken, more_within, just_one, refused_more, refused_same, one_refused, rest_of}
 use Rattle.driver.proofs.uart.Uart16550.send_all.Goals as goal
-use Rattle.driver.proofs.uart.Uart16550.send_all.Goals.{then-count-eq0+in_ok-spend, else-count-eq0}
+use Rattle.driver.proofs.uart.Uart16550.send_all.Goals.{then-count-eq0+in_default, else-count-eq0}
 
 pub loop-moved-init : goal.loop-moved-init
-loop-moved-init g c = ([], no_attempts g.B.Backend.device _ _, tt, c.requires.none, omega arith, omega arith, c.requires.room, refl)
+loop-moved-init g c = ([], no_attempts g.B.Backend.device _ _, tt, refl, omega arith, omega arith, c.requires, refl)
 
 -- what the call of this turn sent, of the rest of the buffer
 turn : {S : Type 0} (d : Device S) (s t : S) (k l : Kept) (buffer : List ℕ) (moved count : ℕ)
     → Sent d s t k l (take (length buffer - moved) (drop moved buffer)) count → Sent d s t k l (drop moved buffer) count
 turn d s t k l buffer moved count q = subst (λ b. Sent d s t k l b count) (rest_of moved buffer) q
 
-pub returns-in_err-spend : goal.returns-in_err-spend
-returns-in_err-spend g c =
+pub returns-in-Err-clause-sent : goal.returns-in-Err-clause-sent
+returns-in-Err-clause-sent g c =
     let d = g.B.Backend.device in
     let i = c.loop-moved.invariant in
     let q = turn d _ _ _ _ c.args.bytes.now c.loop-moved.moved c.send_bytes-count.result c.send_bytes-count.ensures in
     let h = c.loop-moved-test.true in
-    let e = err_from_is_err_and c.from_residual.result c.from_residual.ensures.1 in
-    let b = c.in_err-spend.ensures.answer in
+    let b = c.in-Err.ensures.answer in
     let m = more_made d _ _ _ _ _ _ c.args.bytes.now i.0 c.loop-moved.moved c.send_bytes-count.result i.1 i.2 i.3 h q in
     let a = more_sound d _ _ _ _ _ _ c.args.bytes.now i.0 c.loop-moved.moved c.send_bytes-count.result i.1 i.2 i.3 h q in
     let f = refused_more d _ _ _ _ _ _ c.args.bytes.now i.0 c.loop-moved.moved c.send_bytes-count.result i.1 i.2 i.3 h q c.if-count-eq0.true in
     let n = more_taken d _ _ _ _ _ _ c.args.bytes.now i.0 c.loop-moved.moved c.send_bytes-count.result i.1 i.2 i.3 h q in
     let o = one_refused q.tried (just_one d _ _ _ _ _ _ c.args.bytes.now i.0 c.loop-moved.moved c.send_bytes-count.result i.1 i.2 i.3 h q) (omega (arith, q.answer, c.if-count-eq0.true)) in
-    rw (e.1, e.2, b.0) (record {
-      limit = omega arith;
-      spent = omega (arith, c.spend.ensures.counted);
-      sent = record {
-        tried = i.0 ++ q.tried;
-        made = m;
-        sound = a;
-        sends = rw o.2 (cut i.0 o.0.question (omega (arith, b.1)));
-        counted = omega (arith, f, c.spend.ensures.counted);
-        answer = omega (arith, n, c.if-count-eq0.true);
-      };
+    rw (c.transferred.ensures, b.0) (record {
+      tried = i.0 ++ q.tried;
+      made = m;
+      sound = a;
+      sends = rw o.2 (cut i.0 o.0.question (omega (arith, b.1)));
+      counted = omega (arith, f, c.spend.ensures.counted);
+      answer = omega (arith, n, c.if-count-eq0.true);
     })
 
 pub overflow_add-moved : goal.overflow_add-moved
@@ -59,9 +53,9 @@ loop-moved-preserved g c =
     let q = turn d _ _ _ _ buffer m n c.send_bytes-count.ensures in
     let b : (c.if-count-eq0.budget.fruitless ≡ c.args.budget.now.fruitless + refusals (i.0 ++ q.tried)) × (c.if-count-eq0.budget.fruitless ≤ c.if-count-eq0.budget.limit) × (c.if-count-eq0.budget.limit ≡ c.args.budget.now.limit) =
     elim c.if-count-eq0.branch [
-      | then-count-eq0+in_ok-spend w ↦
+      | then-count-eq0+in_default w ↦
           let f = refused_more d _ _ _ _ _ _ buffer i.0 m n i.1 i.2 i.3 h q w.if-count-eq0.true in
-          rw w.budget-is (omega (arith, f, w.spend.ensures.counted), omega (arith, w.spend.ensures.counted, w.in_ok-spend.ensures.answer, w.spend.ensures.limit), omega (arith, w.spend.ensures.limit))
+          rw w.budget-is (omega (arith, f, w.spend.ensures.counted), omega (arith, w.spend.ensures.counted, w.in_default.ensures.answer, w.spend.ensures.limit), omega (arith, w.spend.ensures.limit))
       | else-count-eq0 w ↦
           let f = refused_same d _ _ _ _ _ _ buffer i.0 m n i.1 i.2 i.3 h q w.if-count-eq0.false in
           rw w.budget-is (omega (arith, f), i.6, i.7)
@@ -76,18 +70,14 @@ loop-moved-preserved g c =
       b.2,
     )
 
-pub returns : goal.returns
-returns g c =
+pub returns-clause-sent : goal.returns-clause-sent
+returns-clause-sent g c =
     let i = c.loop-moved.invariant in
-    record {
-      limit = omega arith;
-      spent = omega arith;
-      sent = record {
-        tried = i.0;
-        made = i.1;
-        sound = i.2;
-        sends = all i.0 (omega arith) (omega arith);
-        counted = omega arith;
-        answer = i.3;
-      };
-    }
+    rw c.transferred-2.ensures (record {
+      tried = i.0;
+      made = i.1;
+      sound = i.2;
+      sends = all i.0 (omega arith) (omega arith);
+      counted = omega arith;
+      answer = i.3;
+    })
