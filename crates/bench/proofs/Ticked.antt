@@ -4,14 +4,14 @@ use denote.Struct.Props.{props}
 use mathlib.Core.HLevel.{is_prop→PathP}
 use Rattle.bench.specs.declared.parts.Parts.{Parts}
 use Rattle.bench.specs.declared.bench.Bench.{Bench}
-use Rattle.bench.specs.Core.{Fits}
-use Rattle.bench.specs.Kept.{sound_fits}
+use Rattle.bench.specs.Kept.{sound_room}
 use Rattle.bench.specs.Parts.{PartsSound, ticked}
+use Rattle.bench.specs.Receiver.{Room}
 use Rattle.bench.specs.Ticks.{ticked_sound}
 
--- an access finds a chip that can take it
-pub ticked_fits : (p : Parts) → PartsSound p → Fits (ticked p).core
-ticked_fits p h = let t = ticked_sound p h in sound_fits (ticked p).tape.next (ticked p).core (omega arith) t.0
+-- the counts can grow when an access acts
+pub ticked_room : (p : Parts) → PartsSound p → Room (ticked p).core.receiver.counts
+ticked_room p h = let t = ticked_sound p h in sound_room (ticked p).tape.next (ticked p).core (omega arith) t.0
 
 sound_prop : (p : Parts) → IsProp (PartsSound p)
 sound_prop p = hlevel props

@@ -1,5 +1,5 @@
 -- The chip itself: what each access does once the line has moved.
-use Rattle.std.specs.Prelude.{ℕ, Bool, cond, not, ◌&&◌, List, ◌==◌, bit_or, nat_lt}
+use Rattle.std.specs.Prelude.{ℕ, Bool, cond, not, ◌&&◌, List, [], ◌∷◌, length, ◌==◌, bit_or, nat_lt}
 use Rattle.registers.specs.Flags.{contains, fifo_enable, rx_fifo_reset, tx_fifo_reset, loop_back}
 use Rattle.backends.specs.declared.character.Character.{Character}
 use Rattle.backends.specs.Chip.{Fifos as Mode, is_on, capacity}
@@ -11,17 +11,12 @@ use Rattle.bench.specs.declared.settings.Fifos.{Fifos}
 use Rattle.bench.specs.declared.settings.Fifos.TheVariants.{Absent, Off, On}
 use Rattle.bench.specs.declared.settings.Settings.{Settings}
 use Rattle.bench.specs.declared.modem.Modem.{Modem}
-use Rattle.bench.specs.Ring.{RingOk, item_at}
 use Rattle.bench.specs.Flag.{flagged}
 use Rattle.bench.specs.Table.{entry_of}
 use Rattle.bench.specs.Settings.{mode, loops, reaches_divisor, scratch_byte, scratch_kept, with_fifos, with_ier, with_lcr, with_mcr, with_dll, with_dlm}
-use Rattle.bench.specs.Receiver.{Room, waiting, reached, data_byte, taken, emptied, noticed, any_marked}
-use Rattle.bench.specs.Transmitter.{filling, sent, struck, unlooped, one_round}
+use Rattle.bench.specs.Receiver.{reached, data_byte, taken, emptied, noticed, any_marked}
+use Rattle.bench.specs.Transmitter.{filling, sent, struck, unlooped}
 use Rattle.bench.specs.Modem.{latched, shown, unchanged}
-
--- the queues keep their bounds, and the mark counts can grow
-abbrev pub Fits : Core → Type 0
-Fits s = RingOk s.receiver.queue × Room s.receiver.counts × RingOk s.transmitter.held × RingOk s.transmitter.turning
 
 abbrev pub with_receiver : Core → Receiver → Core
 with_receiver s r = record { receiver = r; transmitter = s.transmitter; settings = s.settings; modem = s.modem }
@@ -43,17 +38,19 @@ accepting s = nat_lt s.receiver.counts.lost 18446744073709551615
 abbrev pub reaching : Core → Character → Receiver
 reaching s c = reached (mode s.settings.fifos) c s.receiver
 
+-- the oldest of these looped bytes comes round
+abbrev pub come_round : List ℕ → Core → Core
+come_round [] s = s
+come_round (b ∷ bs) s = record {
+  receiver = reaching s (unmarked b);
+  transmitter = record { held = s.transmitter.held; turning = bs };
+  settings = s.settings;
+  modem = s.modem;
+}
+
 -- in loop mode the oldest byte comes round
 abbrev pub turned : Core → Core
-turned s =
-    cond (nat_lt 0 s.transmitter.turning.len && accepting s)
-    (record {
-      receiver = reaching s (unmarked (item_at 0 s.transmitter.turning 0));
-      transmitter = one_round s.transmitter;
-      settings = s.settings;
-      modem = s.modem;
-    })
-    s
+turned s = cond (accepting s) (come_round s.transmitter.turning s) s
 
 -- Reads
 
@@ -71,13 +68,13 @@ status_byte ready overrun parity framing broken idle error =
 -- the line status: bits 5 and 6 agree
 abbrev pub status : Core → ℕ
 status s = status_byte
-    (nat_lt 0 s.receiver.queue.len)
+    (nat_lt 0 (length s.receiver.queue))
     (nat_lt s.receiver.seen.lost s.receiver.counts.lost)
     (nat_lt s.receiver.seen.parity s.receiver.counts.parity)
     (nat_lt s.receiver.seen.framing s.receiver.counts.framing)
     (nat_lt s.receiver.seen.broken s.receiver.counts.broken)
     (filling s.transmitter == 0)
-    (data_error (mode s.settings.fifos) (waiting s.receiver))
+    (data_error (mode s.settings.fifos) s.receiver.queue)
 
 -- no interrupt, and whether the FIFOs are on
 abbrev pub interrupts_shown : Settings → ℕ
@@ -85,7 +82,7 @@ interrupts_shown g = cond (is_on (mode g.fifos)) 0xC1 0x01
 
 -- a read of offset 0, and the chip after it
 abbrev pub data_answer : Core → ℕ
-data_answer s = cond (reaches_divisor s.settings) s.settings.dll (data_byte s.receiver)
+data_answer s = cond (reaches_divisor s.settings) s.settings.dll (data_byte s.receiver.queue)
 
 abbrev pub data_answered : Core → Core
 data_answered s = cond (reaches_divisor s.settings) s (with_receiver s (taken s.receiver))
@@ -118,13 +115,13 @@ answered s k = entry_of k
 
 -- the FIFOs are turned on or off
 abbrev pub switched : Fifos → Core → Core
-switched f s = record { receiver = emptied s.receiver; transmitter = struck s.transmitter; settings = with_fifos s.settings f; modem = s.modem }
+switched f s = record { receiver = emptied s.receiver; transmitter = struck; settings = with_fifos s.settings f; modem = s.modem }
 
 -- the FIFOs stay on: two bits empty one queue each
 abbrev pub reset : ℕ → Core → Core
 reset v s = record {
   receiver = cond (contains v rx_fifo_reset) (emptied s.receiver) s.receiver;
-  transmitter = cond (contains v tx_fifo_reset) (struck s.transmitter) s.transmitter;
+  transmitter = cond (contains v tx_fifo_reset) struck s.transmitter;
   settings = s.settings;
   modem = s.modem;
 }

@@ -9,7 +9,6 @@ pub mod Line
 pub mod Tape
 pub mod Pace
 pub mod Core
-pub mod Items
 pub mod Sound
 pub mod Kept
 pub mod Parts

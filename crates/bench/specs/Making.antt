@@ -1,5 +1,5 @@
 -- A chip as it is made.
-use Rattle.std.specs.Prelude.{◌≡◌, ℕ, Bool, cond, Some, None, Option}
+use Rattle.std.specs.Prelude.{◌≡◌, ℕ, Bool, cond, [], Some, None, Option}
 use Rattle.backends.specs.declared.character.Counts.{Counts}
 use Rattle.bench.specs.declared.chip_core.Core.{Core}
 use Rattle.bench.specs.declared.modem.ModemLines.{ModemLines}
@@ -25,11 +25,11 @@ all_zero fifos scratch = record { ier = 0; lcr = 0; mcr = 0; dll = 0; dlm = 0; s
 
 -- nothing waits, nothing is held and nothing turns, and no event has happened
 pub record Made (fifos scratch : Bool) (lines : ModemLines) (s : Core) : Type 0 where
-  pub waiting : s.receiver.queue.len ≡ 0
+  pub waiting : s.receiver.queue ≡ []
   pub counts : s.receiver.counts ≡ no_events
   pub seen : s.receiver.seen ≡ no_events
-  pub held : s.transmitter.held.len ≡ 0
-  pub turning : s.transmitter.turning.len ≡ 0
+  pub held : s.transmitter.held ≡ []
+  pub turning : s.transmitter.turning ≡ []
   pub settings : s.settings ≡ all_zero fifos scratch
   pub modem : s.modem ≡ still lines
   pub sound : Sound 0 s

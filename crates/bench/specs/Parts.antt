@@ -1,12 +1,10 @@
 -- What the tape, the line and the pace do before an access acts.
-use Rattle.std.specs.Prelude.{ℕ, zero, suc, ◌≤◌, min, Bool, cond, ◌&&◌, vec_len, nat_lt}
+use Rattle.std.specs.Prelude.{ℕ, zero, suc, ◌≤◌, min, Bool, cond, ◌&&◌, List, [], ◌∷◌, vec_len}
 use Rattle.bench.specs.declared.chip_core.Core.{Core}
 use Rattle.bench.specs.declared.parts.Parts.{Parts}
 use Rattle.bench.specs.declared.tape.Tape.{Tape}
 use Rattle.bench.specs.declared.line.Line.{Line}
-use Rattle.bench.specs.Ring.{item_at}
 use Rattle.bench.specs.Settings.{loops}
-use Rattle.bench.specs.Transmitter.{one_gone}
 use Rattle.bench.specs.Core.{accepting, reaching, turned, answered, written, with_receiver, with_transmitter}
 use Rattle.bench.specs.Tape.{older, entry, advanced, left, over}
 use Rattle.bench.specs.Line.{room, written as line_written}
@@ -43,21 +41,19 @@ runs (suc n) p = cond (arriving p) (runs n (arrives p)) p
 unfoldable pub filled : Parts → Parts
 filled p = runs (left p.tape) p
 
--- the oldest held byte leaves
-abbrev pub left_line : Parts → Parts
-left_line p = record {
-  core = with_transmitter p.core (one_gone p.core.transmitter);
+-- the oldest of these held bytes leaves
+abbrev pub leaves : List ℕ → Parts → Parts
+leaves [] p = p
+leaves (b ∷ bs) p = record {
+  core = with_transmitter p.core (record { held = bs; turning = p.core.transmitter.turning });
   tape = p.tape;
-  line = line_written p.line (item_at 0 p.core.transmitter.held 0);
+  line = line_written p.line b;
   pace = p.pace;
 }
 
--- a byte is held, and the line has room for it
-abbrev pub can_leave : Parts → Bool
-can_leave p = nat_lt 0 p.core.transmitter.held.len && room p.line
-
+-- where the line has room, the oldest held byte leaves
 abbrev pub leaving : Parts → Parts
-leaving p = cond (can_leave p) (left_line p) p
+leaving p = cond (room p.line) (leaves p.core.transmitter.held p) p
 
 -- in loop mode the oldest byte comes round on a beat
 abbrev pub passed_looping : Parts → Parts

@@ -1,9 +1,9 @@
 -- The tape: which entry arrives, and when.
 use Rattle.std.specs.Prelude.{ℕ, ◌+◌, ◌-◌, min, Bool, cond, ◌&&◌, List, map, take, vec_items, vec_len, nat_le, nat_lt, slice_index_or}
 use Rattle.backends.specs.declared.character.Character.{Character}
+use Rattle.backends.specs.Rules.{unmarked}
 use Rattle.bench.specs.declared.tape.Tape.{Tape}
 use Rattle.bench.specs.declared.tape.TapeEntry.{TapeEntry}
-use Rattle.bench.specs.Receiver.{blank}
 
 -- one access more has passed
 abbrev pub older : Tape → Tape
@@ -11,7 +11,7 @@ older t = record { entries = t.entries; next = t.next; since = cond (nat_lt t.si
 
 -- the next entry
 abbrev pub entry : Tape → TapeEntry
-entry t = slice_index_or (vec_items t.entries) t.next (record { character = blank; gap = 0 })
+entry t = slice_index_or (vec_items t.entries) t.next (record { character = unmarked 0; gap = 0 })
 
 abbrev pub advanced : Tape → Tape
 advanced t = record { entries = t.entries; next = t.next + 1; since = 0 }

@@ -1,19 +1,17 @@
 -- What happens before an access keeps the chip sound.
-use Rattle.std.specs.Prelude.{◌≡◌, ℕ, zero, suc, ◌+◌, ◌<◌, min, true, vec_len, nat_le, nat_lt}
+use Rattle.std.specs.Prelude.{◌≡◌, ℕ, zero, suc, ◌+◌, ◌<◌, min, true, List, [], ◌∷◌, vec_len, nat_le}
 use Rattle.std.proofs.Common.{arith}
 use Rattle.std.proofs.lemmas.Bool.{ltb-true, cond_both, and_parts}
 use Rattle.bench.specs.declared.parts.Parts.{Parts}
 use Rattle.bench.specs.declared.line.Line.{Line}
-use Rattle.bench.specs.Ring.{item_at}
-use Rattle.bench.specs.Items.{popped_ok}
 use Rattle.bench.specs.Settings.{mode, loops}
 use Rattle.bench.specs.Core.{accepting, turned}
 use Rattle.bench.specs.Tape.{entry, left, over, older}
 use Rattle.bench.specs.Line.{room, written}
 use Rattle.bench.specs.Pace.{beats}
-use Rattle.bench.specs.Parts.{PartsSound, LineSound, arriving, arrives, runs, filled, left_line, can_leave, leaving, paced, passed_looping, passed_outside, ticked, with_tape}
+use Rattle.bench.specs.Parts.{PartsSound, LineSound, arriving, arrives, runs, filled, leaves, leaving, paced, passed_looping, passed_outside, ticked, with_tape}
 use Rattle.bench.specs.Sound.{Sound}
-use Rattle.bench.specs.Kept.{grows_one, reached_sound, reached_bounded, turned_sound}
+use Rattle.bench.specs.Kept.{grows_one, reached_counted, reached_bounded, turned_sound}
 
 -- there is an entry left
 pub arriving_more : (p : Parts) → arriving p ≡ true → p.tape.next < min (vec_len p.tape.entries) 65535
@@ -24,8 +22,11 @@ pub arrives_sound : (p : Parts) → arriving p ≡ true → PartsSound p → Par
 arrives_sound p e h =
     let c = (entry p.tape).character in
     let n = p.tape.next in
-    let r = reached_sound c n (n + 1) (grows_one c n) (mode p.core.settings.fifos) p.core.receiver (h.0.0, h.0.1) in
-    ((r.0, r.1, h.0.2, h.0.3, reached_bounded c (mode p.core.settings.fifos) p.core.receiver h.0.4), omega (arith, arriving_more p e), h.2)
+    let f = mode p.core.settings.fifos in (
+      (reached_counted c n (n + 1) (grows_one c n) f p.core.receiver h.0.0, reached_bounded c f p.core.receiver h.0.1),
+      omega (arith, arriving_more p e),
+      h.2,
+    )
 
 pub runs_sound : (n : ℕ) (p : Parts) → PartsSound p → PartsSound (runs n p)
 unfolding runs
@@ -37,10 +38,9 @@ pub written_line_sound : (l : Line) (b : ℕ) → room l ≡ true → LineSound 
 unfolding written
 written_line_sound l b e = omega (arith, ltb-true l.left (min (vec_len l.store) 65535) e)
 
-pub left_sound : (p : Parts) → can_leave p ≡ true → PartsSound p → PartsSound (left_line p)
-left_sound p e h =
-    let held = p.core.transmitter.held in
-    ((h.0.0, h.0.1, popped_ok held h.0.2, h.0.3, h.0.4), h.1, written_line_sound p.line (item_at 0 held 0) (and_parts (nat_lt 0 held.len) (room p.line) e).1)
+leaves_sound : (bs : List ℕ) (p : Parts) → room p.line ≡ true → PartsSound p → PartsSound (with_tape (leaves bs p) (older p.tape))
+leaves_sound [] p e h = h
+leaves_sound (b ∷ bs) p e h = (h.0, h.1, written_line_sound p.line b e)
 
 pub passed_looping_sound : (p : Parts) → PartsSound p → PartsSound (passed_looping p)
 passed_looping_sound p h =
@@ -49,8 +49,8 @@ passed_looping_sound p h =
 pub passed_outside_sound : (p : Parts) → PartsSound p → PartsSound (passed_outside p)
 passed_outside_sound p h =
     cond_both (beats p.pace) (leaving (paced p)) (paced p) (λ q. PartsSound (with_tape q (older p.tape)))
-    (λ _. cond_both (can_leave (paced p)) (left_line (paced p)) (paced p) (λ q. PartsSound (with_tape q (older p.tape)))
-    (λ e. left_sound (paced p) e h) (λ _. h))
+    (λ _. cond_both (room p.line) (leaves p.core.transmitter.held (paced p)) (paced p) (λ q. PartsSound (with_tape q (older p.tape)))
+    (λ e. leaves_sound p.core.transmitter.held (paced p) e h) (λ _. h))
     (λ _. h)
 
 pub ticked_sound : (p : Parts) → PartsSound p → PartsSound (ticked p)

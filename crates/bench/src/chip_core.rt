@@ -1,8 +1,9 @@
 //! The chip itself: its queues and registers, without the line.
 
 ghost use Rattle.std.specs.Prelude.{◌≡◌, ℕ};
-ghost use Rattle.bench.specs.Core.{Fits, status as shown_status, interrupts_shown, answer as answering, answered, controlled, switched, reset as emptying, modem_controlled, written, turned, accepting};
+ghost use Rattle.bench.specs.Core.{status as shown_status, interrupts_shown, answer as answering, answered, controlled, switched, reset as emptying, modem_controlled, written, turned, accepting};
 ghost use Rattle.bench.specs.Making.{Made};
+ghost use Rattle.bench.specs.Receiver.{Room};
 
 use crate::flag::flag;
 use crate::modem::{Modem, ModemLines};
@@ -59,19 +60,18 @@ impl Core {
 
     /// In loop mode the oldest byte comes round.
     pub fn turn(&mut self)
-        requires { Fits self.old }
+        requires { Room self.old.receiver.counts }
         ensures { self.new ≡ turned self.old }
     {
-        if self.transmitter.turning.len() > 0 && self.accepts() {
-            let byte = self.transmitter.turning.get(0);
-            self.transmitter.turning.pop();
-            self.receiver.reach(self.settings.fifos, unmarked(byte));
+        if self.accepts() {
+            if let Some(byte) = self.transmitter.turning.pop() {
+                self.receiver.reach(self.settings.fifos, unmarked(byte));
+            }
         }
     }
 
     /// The line status.
     fn status(&self) -> u8
-        requires { Fits self.now }
         ensures { result ≡ shown_status self.now }
     {
         let counts = self.receiver.counts;
@@ -94,7 +94,7 @@ impl Core {
 
     /// A register is read.
     pub fn read(&mut self, offset: u8) -> u8
-        requires { Fits self.old }
+        requires { Room self.old.receiver.counts }
         ensures value { result ≡ answering self.old offset }
         ensures state { self.new ≡ answered self.old offset }
     {
@@ -181,7 +181,6 @@ impl Core {
 
     /// A register is written.
     pub fn write(&mut self, offset: u8, value: u8)
-        requires { Fits self.old }
         ensures { self.new ≡ written self.old offset value }
     {
         match offset {

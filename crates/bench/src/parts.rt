@@ -51,10 +51,10 @@ impl Parts {
         requires { PartsSound self.old }
         ensures { self.new ≡ leaving self.old }
     {
-        if self.core.transmitter.held.len() > 0 && self.line.has_room() {
-            let byte = self.core.transmitter.held.get(0);
-            self.core.transmitter.held.pop();
-            self.line.put(byte);
+        if self.line.has_room() {
+            if let Some(byte) = self.core.transmitter.held.pop() {
+                self.line.put(byte);
+            }
         }
     }
 

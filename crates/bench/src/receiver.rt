@@ -1,9 +1,8 @@
 //! The receiving side: the queue of unread characters, and the error events.
 
-ghost use Rattle.std.specs.Prelude.{◌≡◌, ℕ, ◌+◌, ◌^◌, ◌<◌, ◌≤◌, length, Some, None, slice_index_or};
+ghost use Rattle.std.specs.Prelude.{◌≡◌, ℕ, ◌+◌, ◌^◌, ◌<◌};
 ghost use Rattle.backends.specs.Rules.{first as firsts, one_more, unmarked as without_marks};
-ghost use Rattle.bench.specs.Receiver.{Room, reached, taken, data_byte, waiting, bears_mark, any_marked};
-ghost use Rattle.bench.specs.Ring.{RingOk};
+ghost use Rattle.bench.specs.Receiver.{Room, reached, taken, data_byte, bears_mark, any_marked};
 ghost use Rattle.bench.specs.Settings.{mode};
 
 use crate::ring::Ring;
@@ -62,7 +61,6 @@ fn marked(c: Character) -> bool
 impl Receiver {
     /// A character reaches the receiver.
     pub fn reach(&mut self, fifos: Fifos, c: Character)
-        requires ok { RingOk self.old.queue }
         requires marks { Room self.old.counts }
         requires lost { self.old.counts.lost + 1 < 2 ^ 64 }
         ensures { self.new ≡ reached (mode fifos) c self.old }
@@ -84,50 +82,23 @@ impl Receiver {
 
     /// Takes the first of the waiting, and gives its byte: 0 where none waits.
     pub fn take(&mut self) -> u8
-        requires ok { RingOk self.old.queue }
-        requires marks { Room self.old.counts }
-        ensures value { result ≡ data_byte self.old }
+        requires { Room self.old.counts }
+        ensures value { result ≡ data_byte self.old.queue }
         ensures state { self.new ≡ taken self.old }
     {
-        let waiting = self.queue.len();
-        if waiting == 0 {
+        let Some(oldest) = self.queue.pop() else {
             return 0;
+        };
+        if let Some(next) = self.queue.get(0) {
+            self.counts = first(next, self.counts);
         }
-        let byte = self.queue.get(0).byte;
-        self.queue.pop();
-        if self.queue.len() > 0 {
-            self.counts = first(self.queue.get(0), self.counts);
-        }
-        byte
+        oldest.byte
     }
 
     /// Whether a waiting character came with an error.
     pub fn any_marked(&self) -> bool
-        requires { RingOk self.now.queue }
-        ensures { result ≡ any_marked (waiting self.now) }
+        ensures { result ≡ any_marked self.now.queue }
     {
-        let mut at = 0;
-        while at < self.queue.len() {
-            if marked(self.queue.get(at)) {
-                return true;
-            }
-            at += 1;
-        }
-        false
-    }
-
-    /// The waiting character at this place, counted from the oldest.
-    pub fn waiting_at(&self, at: u8) -> Option<Character>
-        requires { RingOk self.now.queue }
-        ensures { elim result [
-          | Some c ↦ (at < length (waiting self.now)) × (c ≡ slice_index_or (waiting self.now) at c)
-          | None ↦ length (waiting self.now) ≤ at
-        ] }
-    {
-        if at < self.queue.len() {
-            Some(self.queue.get(at))
-        } else {
-            None
-        }
+        (0..self.queue.len()).any(|at| self.queue.get(at).is_some_and(marked))
     }
 }

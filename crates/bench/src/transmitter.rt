@@ -1,7 +1,6 @@
 //! The sending side: the bytes that have not left, and those that have not come round.
 
 ghost use Rattle.std.specs.Prelude.{◌≡◌, ℕ, ◌≤◌};
-ghost use Rattle.bench.specs.Ring.{RingOk};
 ghost use Rattle.bench.specs.Transmitter.{filling, sent, struck};
 
 use crate::ring::Ring;
@@ -16,7 +15,6 @@ pub struct Transmitter {
 impl Transmitter {
     /// How many bytes have neither left nor come round.
     pub fn filling(&self) -> u8
-        requires { (RingOk self.now.held) × (RingOk self.now.turning) }
         ensures { result ≡ filling self.now }
     {
         self.held.len() + self.turning.len()
@@ -24,8 +22,7 @@ impl Transmitter {
 
     /// Takes a byte where there is room for it, to turn back in loop mode and else for the line.
     pub fn send(&mut self, loops: bool, room: u8, byte: u8)
-        requires ok { (RingOk self.old.held) × (RingOk self.old.turning) }
-        requires room { room ≤ 16 }
+        requires { room ≤ 16 }
         ensures { self.new ≡ sent loops room byte self.old }
     {
         if self.filling() < room {
@@ -39,7 +36,7 @@ impl Transmitter {
 
     /// Lets all bytes vanish.
     pub fn strike(&mut self)
-        ensures { self.new ≡ struck self.old }
+        ensures { self.new ≡ struck }
     {
         self.held.clear();
         self.turning.clear();

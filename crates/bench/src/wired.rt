@@ -16,24 +16,24 @@ pub struct Wired {
 }
 
 impl Wired {
-    /// Whether a byte leaves, and arrives, now.
+    /// Whether a byte can leave, and arrive.
     fn due(&self) -> bool
         ensures { result ≡ carrying self.now }
     {
-        self.core.transmitter.held.len() > 0 && self.line.has_room() && self.core.accepts()
+        self.line.has_room() && self.core.accepts()
     }
 
-    /// The oldest held byte leaves, and arrives.
+    /// The oldest held byte leaves, and arrives, if there is one.
     fn carry(&mut self)
         requires { (WiredSound self.old) × (carrying self.old ≡ true) }
-        ensures { self.new ≡ carried self.old }
+        ensures { self.new ≡ carried self.old.core.transmitter.held self.old }
     {
-        let byte = self.core.transmitter.held.get(0);
-        self.core.transmitter.held.pop();
-        self.line.put(byte);
-        self.core
-            .receiver
-            .reach(self.core.settings.fifos, unmarked(byte));
+        if let Some(byte) = self.core.transmitter.held.pop() {
+            self.line.put(byte);
+            self.core
+                .receiver
+                .reach(self.core.settings.fifos, unmarked(byte));
+        }
     }
 
     /// What happens before an access acts.

@@ -4,17 +4,16 @@ use Rattle.std.proofs.Common.{sym, ap, ◌∙◌, subst}
 use Rattle.registers.specs.Flags.{contains, fifo_enable, rx_fifo_reset, tx_fifo_reset, loop_back}
 use Rattle.backends.specs.declared.character.Character.{Character}
 use Rattle.backends.specs.Chip.{ChipState, Receiver as RulesReceiver, Transmitter as RulesTransmitter, Setup, is_on, capacity, with_transmitter}
-use Rattle.backends.specs.Rules.{Reads, Writes, Takes, Status, ShowsFifos, struck as rules_struck, emptied as rules_emptied, unlooped as rules_unlooped, controlled as rules_controlled, switched as rules_switched, reset as rules_reset}
+use Rattle.backends.specs.Rules.{Reads, Writes, Takes, Status, ShowsFifos, struck as rules_struck, unlooped as rules_unlooped, controlled as rules_controlled, switched as rules_switched, reset as rules_reset}
 use Rattle.bench.specs.declared.chip_core.Core.{Core}
 use Rattle.bench.specs.declared.settings.Fifos.{Fifos}
 use Rattle.bench.specs.declared.settings.Fifos.TheVariants.{Absent, Off, On}
 use Rattle.bench.specs.Core.{answer, answered, controlled, switched, reset, written, with_settings, with_transmitter as chip_with}
-use Rattle.bench.specs.Kept.{capacity_most}
 use Rattle.bench.specs.Meaning.{chip_of, receiver_of, transmitter_of}
-use Rattle.bench.specs.Receiver.{waiting, emptied}
+use Rattle.bench.specs.Receiver.{emptied}
 use Rattle.bench.specs.Settings.{mode, loops, with_dll, with_dlm, with_ier}
-use Rattle.bench.specs.Sound.{TransmitterSound}
 use Rattle.bench.specs.Transmitter.{struck, unlooped, sent}
+use Rattle.bench.specs.Keeping.Cases.{cond_along}
 use Rattle.bench.specs.Keeping.Reaches.{takes_is}
 use Rattle.bench.specs.Keeping.Sends.{sent_is, struck_is}
 use Rattle.bench.specs.Keeping.Status.{status_is}
@@ -31,8 +30,8 @@ module _ (came : List Character) (gone : List ℕ) (s : Core) where
 
   pub reads_act : (k : ℕ) → Reads m k (answer s k) (chip_of came gone (answered s k))
   reads_act k = record {
-    taken = λ z d. subst (λ j. Takes (waiting s.receiver) m (answer s j) (chip_of came gone (answered s j))) (sym z)
-        (simp d (takes_is s.receiver came m.transmitter m.setup));
+    taken = λ z d. subst (λ j. Takes s.receiver.queue m (answer s j) (chip_of came gone (answered s j))) (sym z)
+        (simp d (takes_is s.receiver.queue s.receiver.counts s.receiver.seen came m.transmitter m.setup));
     divisor_low = λ z d. subst (λ j. (answer s j ≡ s.settings.dll) × (chip_of came gone (answered s j) ≡ m)) (sym z) (simp d (refl, refl));
     interrupts = λ z d. ap (λ j. chip_of came gone (answered s j)) z;
     divisor_high = λ z d. subst (λ j. (answer s j ≡ s.settings.dlm) × (chip_of came gone (answered s j) ≡ m)) (sym z) (simp d (refl, refl));
@@ -50,41 +49,24 @@ pub chip_path : (r q : RulesReceiver) (t u : RulesTransmitter) (g : Setup) → r
     → ◌≡◌ {A = ChipState} (record { receiver = r; transmitter = t; setup = g }) (record { receiver = q; transmitter = u; setup = g })
 chip_path r q t u g p e = cc
 
-module _ (came : List Character) (gone : List ℕ) (s : Core) (ok : TransmitterSound s.transmitter) where
+module _ (came : List Character) (gone : List ℕ) (s : Core) where
   switched_is : (f : Fifos) → chip_of came gone (switched f s) ≡ rules_switched (mode f) (chip_of came gone s)
-  switched_is f = chip_path _ _ _ _ _ refl (struck_is s.transmitter ok gone)
+  switched_is f = chip_path _ _ _ _ _ refl (struck_is gone s.transmitter)
 
   reset_is : (v : ℕ) → chip_of came gone (reset v s) ≡ rules_reset v (chip_of came gone s)
   reset_is v =
-      let r = s.receiver in let t = s.transmitter in
       chip_path _ _ _ _ _
-      (elim (contains v rx_fifo_reset) as (λ b. receiver_of came (cond b (emptied r) r) ≡ cond b (rules_emptied (receiver_of came r)) (receiver_of came r)) [
-        | true ↦ refl
-        | false ↦ refl
-      ])
-      (elim (contains v tx_fifo_reset) as (λ b. transmitter_of gone (cond b (struck t) t) ≡ cond b (rules_struck (transmitter_of gone t)) (transmitter_of gone t)) [
-        | true ↦ struck_is t ok gone
-        | false ↦ refl
-      ])
+      (cond_along (receiver_of came) (contains v rx_fifo_reset) (emptied s.receiver) s.receiver _ _ refl refl)
+      (cond_along (transmitter_of gone) (contains v tx_fifo_reset) struck s.transmitter _ _ (struck_is gone s.transmitter) refl)
 
   controlled_is : (f : Fifos) (v : ℕ) → chip_of came gone (controlled f v s) ≡ rules_controlled (mode f) v (chip_of came gone s)
   controlled_is Absent v = refl
-  controlled_is Off v =
-      elim (contains v fifo_enable) as (λ b. chip_of came gone (cond b (switched On s) s) ≡ cond b (rules_switched (mode On) (chip_of came gone s)) (chip_of came gone s)) [
-        | true ↦ switched_is On
-        | false ↦ refl
-      ]
-  controlled_is On v =
-      elim (contains v fifo_enable) as (λ b. chip_of came gone (cond b (reset v s) (switched Off s))
-      ≡ cond b (rules_reset v (chip_of came gone s)) (rules_switched (mode Off) (chip_of came gone s))) [
-        | true ↦ reset_is v
-        | false ↦ switched_is Off
-      ]
+  controlled_is Off v = cond_along (chip_of came gone) (contains v fifo_enable) (switched On s) s _ _ (switched_is On) refl
+  controlled_is On v = cond_along (chip_of came gone) (contains v fifo_enable) (reset v s) (switched Off s) _ _ (reset_is v) (switched_is Off)
 
   unlooped_is : (b : Bool) → transmitter_of gone (cond b (unlooped s.transmitter) s.transmitter)
       ≡ cond b (rules_unlooped (transmitter_of gone s.transmitter)) (transmitter_of gone s.transmitter)
-  unlooped_is true = refl
-  unlooped_is false = refl
+  unlooped_is b = cond_along (transmitter_of gone) b (unlooped s.transmitter) s.transmitter _ _ refl refl
 
   pub writes_act : (k v : ℕ) → Writes (chip_of came gone s) k v (chip_of came gone (written s k v))
   writes_act k v =
@@ -92,7 +74,7 @@ module _ (came : List Character) (gone : List ℕ) (s : Core) (ok : TransmitterS
       record {
         given = λ z d. ap (λ j. chip_of came gone (written s j v)) z
             ∙ ap (λ b. chip_of came gone (cond b (with_settings s (with_dll s.settings v)) (chip_with s (sent (loops s.settings) (capacity f) v s.transmitter)))) d
-            ∙ ap (λ t. with_transmitter (chip_of came gone s) t) (sent_is s.transmitter ok gone (loops s.settings) (capacity f) v (capacity_most f));
+            ∙ ap (λ t. with_transmitter (chip_of came gone s) t) (sent_is gone s.transmitter (loops s.settings) (capacity f) v);
         divisor_low = λ z d. ap (λ j. chip_of came gone (written s j v)) z
             ∙ ap (λ b. chip_of came gone (cond b (with_settings s (with_dll s.settings v)) (chip_with s (sent (loops s.settings) (capacity f) v s.transmitter)))) d;
         interrupts = λ z d. ap (λ j. chip_of came gone (written s j v)) z

@@ -6,8 +6,7 @@ use Rattle.bench.specs.Line.{gone}
 use Rattle.bench.specs.Parts.{ticked}
 use Rattle.bench.specs.Plug.{plug_device, plug_meaning, wired_meaning}
 use Rattle.bench.specs.Tape.{came}
-use Rattle.bench.specs.Ticks.{ticked_sound}
-use Rattle.bench.specs.Wired.{wired_ticked, wired_ticked_sound}
+use Rattle.bench.specs.Wired.{wired_ticked}
 use Rattle.bench.specs.Keeping.Acts.{reads_act, writes_act}
 use Rattle.bench.specs.Keeping.Carries.{wired_moves}
 use Rattle.bench.specs.Keeping.Moves.{ticked_moves}
@@ -20,19 +19,17 @@ bench_keeps = record {
       record { mid = parts_meaning q; before = ticked_moves s.parts s.ok; acts = reads_act (came q.tape) (gone q.line) q.core k };
   writing = λ s k v l.
       let q = ticked s.parts in
-      let h = ticked_sound s.parts s.ok in
-      record { mid = parts_meaning q; before = ticked_moves s.parts s.ok; acts = writes_act (came q.tape) (gone q.line) q.core (h.0.2, h.0.3) k v };
-  single = λ s e. single_waits s.parts.core s.ok.0.4 e;
+      record { mid = parts_meaning q; before = ticked_moves s.parts s.ok; acts = writes_act (came q.tape) (gone q.line) q.core k v };
+  single = λ s e. single_waits s.parts.core s.ok.0.1 e;
 }
 
 pub plug_keeps : KeepsRules plug_device plug_meaning
 plug_keeps = record {
   reading = λ s k l.
       let w = wired_ticked s.wired in
-      record { mid = wired_meaning w; before = wired_moves s.wired s.ok; acts = reads_act (map unmarked (gone w.line)) (gone w.line) w.core k };
+      record { mid = wired_meaning w; before = wired_moves s.wired; acts = reads_act (map unmarked (gone w.line)) (gone w.line) w.core k };
   writing = λ s k v l.
       let w = wired_ticked s.wired in
-      let h = wired_ticked_sound s.wired s.ok in
-      record { mid = wired_meaning w; before = wired_moves s.wired s.ok; acts = writes_act (map unmarked (gone w.line)) (gone w.line) w.core (h.0.2, h.0.3) k v };
-  single = λ s e. single_waits s.wired.core s.ok.0.4 e;
+      record { mid = wired_meaning w; before = wired_moves s.wired; acts = writes_act (map unmarked (gone w.line)) (gone w.line) w.core k v };
+  single = λ s e. single_waits s.wired.core s.ok.0.1 e;
 }

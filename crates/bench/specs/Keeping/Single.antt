@@ -3,8 +3,6 @@ use Rattle.std.specs.Prelude.{◌≡◌, ◌≤◌, false, length}
 use Rattle.std.proofs.Common.{arith, true≢false}
 use Rattle.backends.specs.Chip.{Fifos, absent, off, on, is_on, capacity}
 use Rattle.bench.specs.declared.chip_core.Core.{Core}
-use Rattle.bench.specs.Items.{length_items}
-use Rattle.bench.specs.Receiver.{blank, waiting}
 use Rattle.bench.specs.Settings.{mode}
 use Rattle.bench.specs.Sound.{Bounded}
 
@@ -14,6 +12,5 @@ one_room absent e = omega arith
 one_room off e = omega arith
 one_room on e = absurd (true≢false e)
 
--- as many wait as the queue is long
-pub single_waits : (s : Core) → Bounded s → is_on (mode s.settings.fifos) ≡ false → length (waiting s.receiver) ≤ 1
-single_waits s h e = omega (arith, length_items blank s.receiver.queue, one_room (mode s.settings.fifos) e)
+pub single_waits : (s : Core) → Bounded s → is_on (mode s.settings.fifos) ≡ false → length s.receiver.queue ≤ 1
+single_waits s h e = omega (arith, one_room (mode s.settings.fifos) e)

@@ -1,18 +1,13 @@
 -- The line status shows what the rules say.
-use Rattle.std.specs.Prelude.{◌≡◌, ℕ, ◌+◌, Bool, true, false, cond, not, ◌&&◌, List, nat_eq, nat_lt, refl}
-use Rattle.std.proofs.Common.{arith, sym, ap, ◌∙◌}
-use Rattle.std.proofs.lemmas.List.{nil_from_length}
-use Rattle.std.proofs.lemmas.Bool.{and_parts, ltb-true, ltb-false}
+use Rattle.std.specs.Prelude.{◌≡◌, ℕ, Bool, true, false, cond, not, ◌&&◌, List, [], ◌∷◌, length, ◌==◌, nat_lt, refl}
+use Rattle.std.proofs.Common.{arith, sym, ◌∙◌}
+use Rattle.std.proofs.lemmas.Bool.{and_parts, lt-ltb}
 use Rattle.registers.specs.Flags.{contains}
 use Rattle.backends.specs.declared.character.Character.{Character}
-use Rattle.backends.specs.Rules.{Status, some_wait, idle}
+use Rattle.backends.specs.Rules.{Status, some_wait}
 use Rattle.bench.specs.declared.chip_core.Core.{Core}
-use Rattle.bench.specs.declared.ring.Ring.{Ring}
 use Rattle.bench.specs.Core.{status, status_byte, data_error}
-use Rattle.bench.specs.Items.{items_popped, length_items}
-use Rattle.bench.specs.Meaning.{chip_of, transmitter_of}
-use Rattle.bench.specs.Receiver.{blank, waiting}
-use Rattle.bench.specs.Ring.{items}
+use Rattle.bench.specs.Meaning.{chip_of}
 use Rattle.bench.specs.Settings.{mode}
 use Rattle.bench.specs.Transmitter.{filling}
 
@@ -56,32 +51,28 @@ rights a b c d e i z =
     each (λ z. right a b c d e i z) hi z
 
 -- a queue that is not empty has a first
-some_wait_is : (q : Ring Character) → nat_lt 0 q.len ≡ some_wait (items blank q)
-some_wait_is q =
-    elim (nat_lt 0 q.len) as (λ t. nat_lt 0 q.len ≡ t → t ≡ some_wait (items blank q)) [
-      | true ↦ λ e. ap some_wait (sym (items_popped blank q (ltb-true 0 q.len e)))
-      | false ↦ λ e. ap some_wait (sym (nil_from_length (items blank q) (length_items blank q ∙ omega (arith, ltb-false 0 q.len e))))
-    ] refl
+some_wait_is : (cs : List Character) → nat_lt 0 (length cs) ≡ some_wait cs
+some_wait_is [] = refl
+some_wait_is (c ∷ cs) = lt-ltb 0 (length (c ∷ cs)) (omega arith)
 
 pub status_is : (came : List Character) (gone : List ℕ) (s : Core) → Status (chip_of came gone s) (status s)
 status_is came gone s =
     let r = s.receiver in
     let v = status s in
-    let i = nat_eq (filling s.transmitter) 0 in
-    let h0 = and_parts _ _ (rights (nat_lt 0 r.queue.len) (nat_lt r.seen.lost r.counts.lost) (nat_lt r.seen.parity r.counts.parity)
-    (nat_lt r.seen.framing r.counts.framing) (nat_lt r.seen.broken r.counts.broken) i (data_error (mode s.settings.fifos) (waiting r))) in
+    let i = filling s.transmitter == 0 in
+    let h0 = and_parts _ _ (rights (nat_lt 0 (length r.queue)) (nat_lt r.seen.lost r.counts.lost) (nat_lt r.seen.parity r.counts.parity)
+    (nat_lt r.seen.framing r.counts.framing) (nat_lt r.seen.broken r.counts.broken) i (data_error (mode s.settings.fifos) r.queue)) in
     let h1 = and_parts _ _ h0.1 in
     let h2 = and_parts _ _ h1.1 in
     let h3 = and_parts _ _ h2.1 in
     let h4 = and_parts _ _ h3.1 in
     let h5 = and_parts _ _ h4.1 in
-    let l : i ≡ idle (transmitter_of gone s.transmitter) = ap (λ n. nat_eq (s.transmitter.held.len + n) 0) (sym (length_items 0 s.transmitter.turning)) in
     record {
       ready = same_true _ _ h0.0 ∙ some_wait_is r.queue;
       overrun = same_true _ _ h1.0;
       parity = same_true _ _ h2.0;
       framing = same_true _ _ h3.0;
       broken = same_true _ _ h4.0;
-      room = same_true _ _ h5.0 ∙ l;
-      empty = λ e. sym l ∙ sym (same_true _ _ h5.1) ∙ e;
+      room = same_true _ _ h5.0;
+      empty = λ e. sym (same_true _ _ h5.1) ∙ e;
     }

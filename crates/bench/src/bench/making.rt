@@ -67,7 +67,7 @@ impl Bench {
           | None ↦ length (bench_meaning self.now).receiver.waiting ≤ at
         ] }
     {
-        self.parts.core.receiver.waiting_at(at)
+        self.parts.core.receiver.queue.get(at)
     }
 
     /// The tape's entries that have arrived, in their order.

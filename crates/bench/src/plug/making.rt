@@ -41,7 +41,7 @@ impl Plug {
           | None ↦ length (plug_meaning self.now).receiver.waiting ≤ at
         ] }
     {
-        self.wired.core.receiver.waiting_at(at)
+        self.wired.core.receiver.queue.get(at)
     }
 
     /// The bytes that have left, and arrived, in their order.

@@ -1,12 +1,13 @@
 use Rattle.std.proofs.Common.{sym, ap, ◌∙◌, subst}
-use Rattle.bench.specs.Core.{Fits, answer, answered}
+use Rattle.bench.specs.Core.{answer, answered}
 use Rattle.bench.specs.Parts.{with_core}
+use Rattle.bench.specs.Receiver.{Room}
 use Rattle.bench.specs.declared.parts.Parts.{Parts}
-use Rattle.bench.proofs.Ticked.{ticked_fits}
+use Rattle.bench.proofs.Ticked.{ticked_room}
 use Rattle.bench.proofs.parts.Parts.read.Goals as goal
 
 pub read-requires : goal.read-requires
-read-requires c = subst (λ (p : Parts). Fits p.core) (sym c.tick.ensures) (ticked_fits c.args.self.now c.requires)
+read-requires c = subst (λ (p : Parts). Room p.core.receiver.counts) (sym c.tick.ensures) (ticked_room c.args.self.now c.requires)
 
 pub returns : goal.returns
 returns c =

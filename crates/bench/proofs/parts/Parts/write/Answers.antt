@@ -1,12 +1,8 @@
-use Rattle.std.proofs.Common.{sym, ap, ◌∙◌, subst}
-use Rattle.bench.specs.Core.{Fits, written}
+use Rattle.std.proofs.Common.{ap, ◌∙◌}
+use Rattle.bench.specs.Core.{written}
 use Rattle.bench.specs.Parts.{with_core}
 use Rattle.bench.specs.declared.parts.Parts.{Parts}
-use Rattle.bench.proofs.Ticked.{ticked_fits}
 use Rattle.bench.proofs.parts.Parts.write.Goals as goal
-
-pub write-requires : goal.write-requires
-write-requires c = subst (λ (p : Parts). Fits p.core) (sym c.tick.ensures) (ticked_fits c.args.self.now c.requires)
 
 pub returns : goal.returns
 returns c =

@@ -1,22 +1,27 @@
-use Rattle.std.proofs.Common.{◌≡◌, ℕ, ◌+◌, ◌-◌, ◌<◌, Bool, ◌||◌, sym, ap, ◌∙◌, arith}
-use Rattle.bench.specs.Receiver.{any_marked, bears_mark, blank}
-use Rattle.bench.specs.Ring.{item_at, items_from}
-use Rattle.bench.specs.declared.receiver.Receiver.{Receiver}
-use Rattle.bench.proofs.Items.{items_step}
+use Rattle.std.proofs.Common.{◌≡◌, ℕ, suc, ◌+◌, Bool, false, ◌||◌, List, [], ◌∷◌, length, slice_get, Option, None, Some, refl, sym, ap, ap₂, ◌∙◌, arith, rules}
+use Rattle.std.specs.List.{list_any, range_with_len}
+use Rattle.std.proofs.lemmas.Iterator.{YieldsList-from_range}
+use Rattle.std.proofs.lemmas.Iterator.Search.{any_from_yields_List}
+use Rattle.backends.specs.declared.character.Character.{Character}
+use Rattle.bench.specs.Receiver.{bears_mark}
 use Rattle.bench.proofs.receiver.Receiver.any_marked.Goals as goal
 
--- the test of those that are left, by what the test of the next one gave
-step : (r : Receiver) (k : ℕ) (b : Bool) → k < r.queue.len → b ≡ bears_mark (item_at blank r.queue k)
-    → any_marked (items_from blank r.queue.cells (r.queue.from + k) (r.queue.len - k))
-    ≡ (b || any_marked (items_from blank r.queue.cells (r.queue.from + (k + 1)) (r.queue.len - (k + 1))))
-step r k b l e =
-    ap any_marked (items_step blank r.queue k l)
-    ∙ ap (λ t. t || any_marked (items_from blank r.queue.cells (r.queue.from + (k + 1)) (r.queue.len - (k + 1)))) (sym e)
+-- what stands at a place bears a mark
+abbrev is_marked : Option Character → Bool
+is_marked None = false
+is_marked (Some c) = bears_mark c
 
-pub returns-then-marked : goal.returns-then-marked
-returns-then-marked c =
-    sym (step c.args.self.now c.loop-at.at _ (omega arith) (c.if-marked.ensures ∙ ap bears_mark (c.get.ensures blank))) ∙ c.loop-at.invariant.1
+-- one of the places has a marked character, if one of the characters is marked
+any-places : (f : ℕ → Bool) (a : ℕ) (cs : List Character) → ((k : ℕ) → f (a + k) ≡ is_marked (slice_get cs k))
+    → list_any f (range_with_len a (length cs)) ≡ list_any bears_mark cs
+any-places f a [] h = refl
+any-places f a (c ∷ cs) h =
+    ap₂ ◌||◌ (ap f (omega arith) ∙ h 0)
+    (any-places f (a + 1) cs (λ k. let e : a + 1 + k ≡ a + suc k = omega arith in ap f e ∙ h (suc k)))
 
-pub loop-at-preserved : goal.loop-at-preserved
-loop-at-preserved c =
-    (omega arith, sym (step c.args.self.now c.loop-at.at _ (omega arith) (c.if-marked.ensures ∙ ap bears_mark (c.get.ensures blank))) ∙ c.loop-at.invariant.1)
+pub returns : goal.returns
+returns c =
+    let q = c.args.self.now.queue in
+    any_from_yields_List (λ k. is_marked (slice_get q k)) _ _ _ c.any.ensures.ran
+    (YieldsList-from_range 0 c.len.result (length q) refl (omega arith)) (λ x b q k. search rules)
+    ∙ any-places (λ k. is_marked (slice_get q k)) 0 q (λ k. ap (λ j. is_marked (slice_get q j)) (omega arith))

@@ -1,12 +1,13 @@
 use Rattle.std.proofs.Common.{sym, ap, ◌∙◌, subst}
-use Rattle.bench.specs.Core.{Fits, answer, answered}
+use Rattle.bench.specs.Core.{answer, answered}
+use Rattle.bench.specs.Receiver.{Room}
 use Rattle.bench.specs.Wired.{wired_with}
 use Rattle.bench.specs.declared.wired.Wired.{Wired}
-use Rattle.bench.specs.Keeping.Carries.{wired_fits}
+use Rattle.bench.specs.Keeping.Carries.{wired_room}
 use Rattle.bench.proofs.wired.Wired.read.Goals as goal
 
 pub read-requires : goal.read-requires
-read-requires c = subst (λ (p : Wired). Fits p.core) (sym c.tick.ensures) (wired_fits c.args.self.now c.requires)
+read-requires c = subst (λ (p : Wired). Room p.core.receiver.counts) (sym c.tick.ensures) (wired_room c.args.self.now c.requires)
 
 pub returns : goal.returns
 returns c =
