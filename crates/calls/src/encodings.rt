@@ -1,105 +1,50 @@
 //! Questions about the bits of registers.
 
-use crate::fault::Fault;
-use crate::frames;
-use crate::show::level_name;
+use crate::line::{Answered, Line};
+use crate::show::Two;
+use crate::values::{Flag, Level, Octet};
 use crate::words::Words;
 use registers::fcr::FifoTriggerLevel;
 use registers::isr::InterruptType;
 use registers::{fcr, isr, lsr, psd};
-use std::fmt::Write;
+use std::fmt;
 
 /// Answers one of these questions.
-pub fn answer(name: &str, words: &mut Words<'_>, out: &mut String) -> Result<(), Fault> {
-    match name {
-        "interrupt" => interrupt(words, out),
-        "has_error" => has_error(words, out),
-        "level_from_raw" => level_from_raw(words, out),
-        "level_to_raw" => level_to_raw(words, out),
-        "fcr_level" => fcr_level(words, out),
-        "fcr_set_level" => fcr_set_level(words, out),
-        "pdf" => pdf(words, out),
-        "set_pdf" => set_pdf(words, out),
-        _ => frames::answer(name, words, out),
-    }
-}
-
-fn interrupt(words: &mut Words<'_>, out: &mut String) -> Result<(), Fault> {
-    let status = words.byte()?;
-    words.end()?;
-    tell_type(isr::interrupt_type(status), out)?;
-    let pending = u8::from(isr::has_pending_interrupt(status));
-    let fifo = u8::from(isr::fifo_enabled(status));
-    write!(out, " {pending} {fifo}")?;
-    Ok(())
+pub fn answer(line: &mut Line<'_>) -> Answered {
+    Some(match line.name {
+        "interrupt" => line.ok(Words::one, |Octet(status)| {
+            let pending = Flag(isr::has_pending_interrupt(status));
+            let fifo = Flag(isr::fifo_enabled(status));
+            Two(Interrupt(isr::interrupt_type(status)), Two(pending, fifo))
+        }),
+        "has_error" => line.ok(Words::one, |Octet(status)| Flag(lsr::has_error(status))),
+        "level_from_raw" => line.ok(Words::one, |Octet(bits)| {
+            Level(FifoTriggerLevel::from_raw_bits(bits))
+        }),
+        "level_to_raw" => line.ok(Words::one, |Level(level)| Octet(level.to_raw_bits())),
+        "fcr_level" => line.ok(Words::one, |Octet(control)| {
+            Level(fcr::fifo_trigger_level(control))
+        }),
+        "fcr_set_level" => line.ok(Words::two, |(Octet(control), Level(level))| {
+            Octet(fcr::set_fifo_trigger_level(control, level))
+        }),
+        "pdf" => line.ok(Words::one, |Octet(division)| psd::pdf(division)),
+        "set_pdf" => line.ok(Words::two, |(Octet(division), factor)| {
+            Octet(psd::set_pdf(division, factor))
+        }),
+        _ => return None,
+    })
 }
 
 /// The name and the priority of an interrupt, or `-` for both.
-fn tell_type(kind: Option<InterruptType>, out: &mut String) -> Result<(), Fault> {
-    match kind {
-        None => out.write_str("ok - -")?,
-        Some(kind) => {
-            let priority = kind.priority();
-            write!(out, "ok {kind:?} {priority}")?;
+#[derive(Drop)]
+struct Interrupt(Option<InterruptType>);
+
+impl fmt::Display for Interrupt {
+    fn fmt<W: fmt::Write>(&self, f: &mut fmt::Formatter<W>) -> fmt::Result {
+        match self.0 {
+            None => f.write_str("- -"),
+            Some(kind) => write!(f, "{kind:?} {}", kind.priority()),
         }
     }
-    Ok(())
-}
-
-fn has_error(words: &mut Words<'_>, out: &mut String) -> Result<(), Fault> {
-    let status = words.byte()?;
-    words.end()?;
-    let error = u8::from(lsr::has_error(status));
-    write!(out, "ok {error}")?;
-    Ok(())
-}
-
-fn level_from_raw(words: &mut Words<'_>, out: &mut String) -> Result<(), Fault> {
-    let bits = words.byte()?;
-    words.end()?;
-    let level = level_name(FifoTriggerLevel::from_raw_bits(bits));
-    write!(out, "ok {level}")?;
-    Ok(())
-}
-
-fn level_to_raw(words: &mut Words<'_>, out: &mut String) -> Result<(), Fault> {
-    let level = words.level()?;
-    words.end()?;
-    let bits = level.to_raw_bits();
-    write!(out, "ok {bits:02X}")?;
-    Ok(())
-}
-
-fn fcr_level(words: &mut Words<'_>, out: &mut String) -> Result<(), Fault> {
-    let control = words.byte()?;
-    words.end()?;
-    let level = level_name(fcr::fifo_trigger_level(control));
-    write!(out, "ok {level}")?;
-    Ok(())
-}
-
-fn fcr_set_level(words: &mut Words<'_>, out: &mut String) -> Result<(), Fault> {
-    let control = words.byte()?;
-    let level = words.level()?;
-    words.end()?;
-    let set = fcr::set_fifo_trigger_level(control, level);
-    write!(out, "ok {set:02X}")?;
-    Ok(())
-}
-
-fn pdf(words: &mut Words<'_>, out: &mut String) -> Result<(), Fault> {
-    let division = words.byte()?;
-    words.end()?;
-    let factor = psd::pdf(division);
-    write!(out, "ok {factor}")?;
-    Ok(())
-}
-
-fn set_pdf(words: &mut Words<'_>, out: &mut String) -> Result<(), Fault> {
-    let division = words.byte()?;
-    let factor = words.u8()?;
-    words.end()?;
-    let set = psd::set_pdf(division, factor);
-    write!(out, "ok {set:02X}")?;
-    Ok(())
 }

@@ -1,18 +1,17 @@
 //! Why a line has no answer.
 
-ghost use Rattle.calls.specs.declared.fault.Fault.TheVariants.{Memory};
+ghost use Rattle.calls.specs.declared.fault.Fault.TheVariants.{Malformed, Memory};
 ghost use Rattle.std.specs.Prelude.{◌≡◌};
 
 use std::alloc::{AllocError, AllocFailed};
 use std::error::Error;
 use std::fmt;
+use std::num::ParseIntError;
 
 /// What went wrong with a line.
 #[derive(Clone, Copy, Debug, PartialEq, Eq)]
 pub enum Fault {
-    /// It does not begin with the name that was looked for.
-    Unknown,
-    /// Its words are not those that belong to its name.
+    /// Its words are not those that belong to a name.
     Malformed,
     /// No memory was left.
     Memory,
@@ -20,15 +19,22 @@ pub enum Fault {
 
 impl fmt::Display for Fault {
     fn fmt<W: fmt::Write>(&self, f: &mut fmt::Formatter<W>) -> fmt::Result {
-        match self {
-            Fault::Unknown => f.write_str("no such line"),
-            Fault::Malformed => f.write_str("a line of wrong words"),
-            Fault::Memory => f.write_str("out of memory"),
-        }
+        f.write_str(match self {
+            Fault::Malformed => "a line of wrong words",
+            Fault::Memory => "out of memory",
+        })
     }
 }
 
 impl Error for Fault {}
+
+impl From<ParseIntError> for Fault {
+    ghost from_gives = { λ _ r. r ≡ Malformed };
+
+    fn from(_e: ParseIntError) -> Fault {
+        Fault::Malformed
+    }
+}
 
 impl From<AllocError> for Fault {
     ghost from_gives = { λ _ r. r ≡ Memory };

@@ -2,104 +2,52 @@
 
 use crate::calls::Device;
 use crate::fault::Fault;
-use crate::show::Hex;
+use crate::line::{Answered, Line};
+use crate::show::{Hex, Two, Value};
+use crate::values::Octet;
 use crate::words::Words;
 use backends::Backend;
-use std::fmt::Write;
 
 /// Plays one of these calls.
-pub fn answer(
-    device: &mut Device<'_>,
-    name: &str,
-    words: &mut Words<'_>,
-    out: &mut String,
-) -> Result<(), Fault> {
-    match name {
-        "dll_dlm" => dll_dlm(device, words, out),
-        "dump" => dump(device, words, out),
-        "enable" => enable(device, words, out),
-        "disable" => disable(device, words, out),
-        "raw_read" => raw_read(device, words, out),
-        "raw_write" => raw_write(device, words, out),
-        _ => getter(device, name, words, out),
-    }
+pub fn answer(device: &mut Device<'_>, line: &mut Line<'_>) -> Answered {
+    Some(match line.name {
+        "ier" => line.ok(Words::none, |()| Octet(device.ier())),
+        "isr" => line.ok(Words::none, |()| Octet(device.isr())),
+        "lcr" => line.ok(Words::none, |()| Octet(device.lcr())),
+        "mcr" => line.ok(Words::none, |()| Octet(device.mcr())),
+        "lsr" => line.ok(Words::none, |()| Octet(device.lsr())),
+        "msr" => line.ok(Words::none, |()| Octet(device.msr())),
+        "spr" => line.ok(Words::none, |()| Octet(device.spr())),
+        "dll_dlm" => line.ok(Words::none, |()| {
+            let (low, high) = device.dll_dlm();
+            Two(Octet(low), Octet(high))
+        }),
+        "dump" => dump(device, line),
+        "enable" => line.answer(Words::one, |Octet(interrupts)| {
+            device.enable_interrupts(interrupts);
+            "ok"
+        }),
+        "disable" => line.answer(Words::one, |Octet(interrupts)| {
+            device.disable_interrupts(interrupts);
+            "ok"
+        }),
+        // A read and a write past the driver.
+        "raw_read" => line.ok(Words::one, |offset| {
+            Octet(device.backend_mut().read(offset))
+        }),
+        "raw_write" => line.answer(Words::two, |(offset, Octet(value))| {
+            device.backend_mut().write(offset, value);
+            "ok"
+        }),
+        _ => return None,
+    })
 }
 
-/// A getter of one register.
-fn getter(
-    device: &mut Device<'_>,
-    name: &str,
-    words: &mut Words<'_>,
-    out: &mut String,
-) -> Result<(), Fault> {
-    words.end()?;
-    let value = match name {
-        "ier" => device.ier(),
-        "isr" => device.isr(),
-        "lcr" => device.lcr(),
-        "mcr" => device.mcr(),
-        "lsr" => device.lsr(),
-        "msr" => device.msr(),
-        "spr" => device.spr(),
-        _ => return Err(Fault::Unknown),
-    };
-    write!(out, "ok {value:02X}")?;
-    Ok(())
-}
-
-fn dll_dlm(device: &mut Device<'_>, words: &mut Words<'_>, out: &mut String) -> Result<(), Fault> {
-    words.end()?;
-    let (low, high) = device.dll_dlm();
-    write!(out, "ok {low:02X} {high:02X}")?;
-    Ok(())
-}
-
-fn dump(device: &mut Device<'_>, words: &mut Words<'_>, out: &mut String) -> Result<(), Fault> {
-    words.end()?;
+fn dump(device: &mut Device<'_>, line: &mut Line<'_>) -> Result<(), Fault> {
+    line.read(Words::none)?;
     let d = device.config_register_dump();
     let bytes = [
         d.ier, d.isr, d.lcr, d.mcr, d.lsr, d.msr, d.spr, d.dll, d.dlm,
     ];
-    let held = Hex(&bytes);
-    write!(out, "ok {held}")?;
-    Ok(())
-}
-
-fn enable(device: &mut Device<'_>, words: &mut Words<'_>, out: &mut String) -> Result<(), Fault> {
-    let interrupts = words.byte()?;
-    words.end()?;
-    device.enable_interrupts(interrupts);
-    out.write_str("ok")?;
-    Ok(())
-}
-
-fn disable(device: &mut Device<'_>, words: &mut Words<'_>, out: &mut String) -> Result<(), Fault> {
-    let interrupts = words.byte()?;
-    words.end()?;
-    device.disable_interrupts(interrupts);
-    out.write_str("ok")?;
-    Ok(())
-}
-
-/// A read past the driver.
-fn raw_read(device: &mut Device<'_>, words: &mut Words<'_>, out: &mut String) -> Result<(), Fault> {
-    let offset = words.u8()?;
-    words.end()?;
-    let value = device.backend_mut().read(offset);
-    write!(out, "ok {value:02X}")?;
-    Ok(())
-}
-
-/// A write past the driver.
-fn raw_write(
-    device: &mut Device<'_>,
-    words: &mut Words<'_>,
-    out: &mut String,
-) -> Result<(), Fault> {
-    let offset = words.u8()?;
-    let value = words.byte()?;
-    words.end()?;
-    device.backend_mut().write(offset, value);
-    out.write_str("ok")?;
-    Ok(())
+    line.tell(&Value(Hex(&bytes)))
 }

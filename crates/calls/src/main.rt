@@ -9,8 +9,8 @@ mod encodings;
 mod fault;
 mod frames;
 mod hex;
+mod line;
 mod looks;
-mod numbers;
 mod places;
 mod play;
 mod questions;
@@ -21,6 +21,7 @@ mod show;
 mod tables;
 mod transcript;
 mod transfers;
+mod values;
 mod words;
 
 use play::answers;

@@ -2,20 +2,29 @@
 
 ghost use Rattle.calls.specs.Landing.{landing};
 
-use crate::fault::Fault;
-use crate::refusals;
+use crate::line::{Answered, Line};
+use crate::show::{Outcome, Two};
+use crate::values::Optional;
 use crate::words::Words;
 use backends::{Backend, MmioBackend, MmioPlace, PioBackend, PortPlace, Space};
-use std::fmt::Write;
 
 /// Answers one of these questions.
-pub fn answer(name: &str, words: &mut Words<'_>, out: &mut String) -> Result<(), Fault> {
-    match name {
-        "port" => port(words, out),
-        "mmio" => mmio(words, out),
-        "mmio_place" => mmio_place(words, out),
-        _ => Err(Fault::Unknown),
-    }
+pub fn answer(line: &mut Line<'_>) -> Answered {
+    Some(match line.name {
+        "port" => line.answer(Words::one, |base| {
+            Outcome(PortPlace::new(base).map(|place| PioBackend::new(place, NOWHERE).base()))
+        }),
+        "mmio" => line.answer(Words::two, |(base, stride)| {
+            Outcome(MmioPlace::new(base, stride).map(|place| {
+                let backend = MmioBackend::new(place, NOWHERE);
+                Two(backend.base(), backend.stride())
+            }))
+        }),
+        "mmio_place" => line.answer(Words::two, |(stride, offset)| {
+            Outcome(MmioPlace::new(0, stride).map(|place| Optional(landed(place, offset))))
+        }),
+        _ => return None,
+    })
 }
 
 /// An address space of which only the last write is known.
@@ -23,6 +32,9 @@ pub fn answer(name: &str, words: &mut Words<'_>, out: &mut String) -> Result<(),
 pub struct Landing {
     address: Option<u64>,
 }
+
+/// Nothing was written yet.
+const NOWHERE: Landing = Landing { address: None };
 
 impl Space for Landing {
     ghost bus = { landing };
@@ -36,56 +48,9 @@ impl Space for Landing {
     }
 }
 
-fn port(words: &mut Words<'_>, out: &mut String) -> Result<(), Fault> {
-    let base = words.u16()?;
-    words.end()?;
-    match PortPlace::new(base) {
-        Ok(place) => {
-            let base = PioBackend::new(place, Landing { address: None }).base();
-            write!(out, "ok {base}")?;
-        }
-        Err(e) => refusals::address(e, out)?,
-    }
-    Ok(())
-}
-
-fn mmio(words: &mut Words<'_>, out: &mut String) -> Result<(), Fault> {
-    let base = words.u64()?;
-    let stride = words.u8()?;
-    words.end()?;
-    match MmioPlace::new(base, stride) {
-        Ok(place) => {
-            let backend = MmioBackend::new(place, Landing { address: None });
-            let base = backend.base();
-            let stride = backend.stride();
-            write!(out, "ok {base} {stride}")?;
-        }
-        Err(e) => refusals::address(e, out)?,
-    }
-    Ok(())
-}
-
-fn mmio_place(words: &mut Words<'_>, out: &mut String) -> Result<(), Fault> {
-    let stride = words.u8()?;
-    let offset = words.u8()?;
-    words.end()?;
-    match MmioPlace::new(0, stride) {
-        Ok(place) => tell_distance(landed(place, offset), out),
-        Err(e) => Ok(refusals::address(e, out)?),
-    }
-}
-
 /// Where a write to a register lands, if it does.
 fn landed(place: MmioPlace, offset: u8) -> Option<u64> {
-    let mut backend = MmioBackend::new(place, Landing { address: None });
+    let mut backend = MmioBackend::new(place, NOWHERE);
     backend.write(offset, 0);
     backend.space().address
-}
-
-fn tell_distance(distance: Option<u64>, out: &mut String) -> Result<(), Fault> {
-    match distance {
-        Some(distance) => write!(out, "ok {distance}")?,
-        None => out.write_str("ok -")?,
-    }
-    Ok(())
 }

@@ -2,13 +2,16 @@
 
 use crate::calls::Device;
 use crate::fault::Fault;
+use crate::line::Line;
 use crate::show::Accesses;
 use crate::transcript::Transcript;
+use crate::values::{Flag, Octet};
 use crate::words::Words;
 use crate::{calls, questions};
 use backends::Script;
 use driver::Uart16550;
 use std::alloc::Global;
+use std::fmt;
 use std::fmt::Write;
 use std::slice::Iter;
 
@@ -42,59 +45,54 @@ pub fn answers(heap: Global, text: &str) -> Result<String, Fault> {
 
 /// The bytes of all devices, in the order of their lines.
 fn scripts(heap: Global, text: &str) -> Result<Vec<Bytes>, Fault> {
-    let mut scripts = Vec::new(heap);
-    for line in text.lines() {
-        if line.starts_with("device") {
-            scripts.push(script(heap, line)?)?;
-        }
-    }
-    Ok(scripts)
+    text.lines()
+        .filter(|line| line.starts_with("device"))
+        .map(|line| script(heap, line))
+        .try_collect(heap)
 }
 
 /// The bytes of one device.
 fn script(heap: Global, line: &str) -> Result<Bytes, Fault> {
-    match script_words(heap, &mut Words::new(line)) {
+    match script_words(&mut Words::new(heap, line)) {
         Ok(bytes) => Ok(Some(bytes)),
         Err(Fault::Memory) => Err(Fault::Memory),
-        Err(_) => Ok(None),
+        Err(Fault::Malformed) => Ok(None),
     }
 }
 
-fn script_words(heap: Global, words: &mut Words<'_>) -> Result<Vec<u8>, Fault> {
+fn script_words(words: &mut Words<'_>) -> Result<Vec<u8>, Fault> {
     if words.word()? != "device" {
         return Err(Fault::Malformed);
     }
-    let bytes = words.bytes(heap)?;
+    let bytes = words.bytes()?;
     words.end()?;
     Ok(bytes)
 }
 
 impl<'a> Player<'a> {
     /// Answers one line.
-    fn line(&mut self, line: &str, out: &mut String) -> Result<(), Fault> {
-        let mut answer = String::new(self.heap);
-        match self.answer(line, &mut answer) {
-            Ok(()) => writeln!(out, "{answer}")?,
+    fn line(&mut self, text: &str, out: &mut String) -> Result<(), Fault> {
+        let mut line = Line::new(self.heap, text)?;
+        match self.answer(&mut line) {
+            Ok(()) => writeln!(out, "{}", line.answer)?,
+            Err(Fault::Malformed) => writeln!(out, "? {text}")?,
             Err(Fault::Memory) => return Err(Fault::Memory),
-            Err(_) => writeln!(out, "? {line}")?,
         }
         Ok(())
     }
 
-    fn answer(&mut self, line: &str, out: &mut String) -> Result<(), Fault> {
-        if line.starts_with("device") {
-            return self.next_device(out);
+    fn answer(&mut self, line: &mut Line<'_>) -> Result<(), Fault> {
+        if line.text.starts_with("device") {
+            return self.next_device(line);
         }
-        let mut words = Words::new(line);
-        let name = words.word()?;
-        match questions::answer(name, &mut words, out) {
-            Err(Fault::Unknown) => self.call(name, &mut words, out),
-            answered => answered,
+        match questions::answer(line) {
+            Some(answered) => answered,
+            None => self.call(line),
         }
     }
 
     /// Puts the next script's device in the place of the one that stands.
-    fn next_device(&mut self, out: &mut String) -> Result<(), Fault> {
+    fn next_device(&mut self, line: &mut Line<'_>) -> Result<(), Fault> {
         let Some(Some(bytes)) = self.scripts.next() else {
             return Err(Fault::Malformed);
         };
@@ -102,35 +100,37 @@ impl<'a> Player<'a> {
         self.device = Some(Uart16550::new_with_backend(backend));
         self.devices = self.devices.saturating_add(1);
         let count = self.devices;
-        write!(out, "device {count}")?;
+        write!(line.answer, "device {count}")?;
         Ok(())
     }
 
     /// Plays one call on the device that stands, and tells what it left.
-    fn call(&mut self, name: &str, words: &mut Words<'_>, out: &mut String) -> Result<(), Fault> {
+    fn call(&mut self, line: &mut Line<'_>) -> Result<(), Fault> {
         let Some(device) = &mut self.device else {
             return Err(Fault::Malformed);
         };
         device.backend_mut().clear();
-        calls::answer(self.heap, device, name, words, out)?;
-        after(device, out)
+        calls::answer(device, line).unwrap_or(Err(Fault::Malformed))?;
+        line.tell(&After(device))
     }
 }
 
 /// What the driver keeps after a call, and the accesses of the call.
-fn after(device: &Device<'_>, out: &mut String) -> Result<(), Fault> {
-    let line = device.lsr_saved();
-    let modem = device.msr_saved();
-    let interrupts = device.config().interrupts;
-    let fifo = u8::from(device.fifo_enabled());
-    let accesses = Accesses(device.backend().recorded());
-    write!(
-        out,
-        " | {line:02X} {modem:02X} {interrupts:02X} {fifo} |{accesses}"
-    )?;
-    let more = device.backend().left_out();
-    if more > 0 {
-        write!(out, " and {more} more")?;
+#[derive(Drop)]
+struct After<'a, 'd>(&'a Device<'d>);
+
+impl fmt::Display for After<'_, '_> {
+    fn fmt<W: fmt::Write>(&self, f: &mut fmt::Formatter<W>) -> fmt::Result {
+        let device = self.0;
+        let line = Octet(device.lsr_saved());
+        let modem = Octet(device.msr_saved());
+        let interrupts = Octet(device.config().interrupts);
+        let fifo = Flag(device.fifo_enabled());
+        let accesses = Accesses(device.backend().recorded());
+        write!(f, " | {line} {modem} {interrupts} {fifo} |{accesses}")?;
+        match device.backend().left_out() {
+            0 => Ok(()),
+            more => write!(f, " and {more} more"),
+        }
     }
-    Ok(())
 }

@@ -1,113 +1,203 @@
 //! Refusals in an answer: `no`, the number, and the values.
 
-use crate::numbers;
-use crate::show::Prescaler;
+ghost use Rattle.registers.specs.Refusal.{Refusal, address_refusal, baud_refusal, budget_refusal, divisor_refusal, init_refusal, loopback_refusal, receive_refusal, remote_refusal, send_refusal};
+ghost use Rattle.std.specs.Prelude.{◌≡◌};
+
+use crate::values::{Octet, Optional};
 use registers::error::{
     BudgetError, ByteReceiveError, ByteSendError, InitError, InvalidAddressError,
     InvalidBaudRateError, InvalidDivisorError, LoopbackError, RemoteReadyToReceiveError, Wait,
 };
-use std::alloc::AllocError;
-use std::fmt::Write;
+use std::fmt;
 
-/// Registers that cannot stand at an address.
-pub fn address(e: InvalidAddressError, out: &mut String) -> Result<(), AllocError> {
-    let number = numbers::of_address(e);
-    match e {
-        InvalidAddressError::InvalidStride(stride) => write!(out, "no {number} {stride}"),
-        InvalidAddressError::InvalidBaseAddress(base) => write!(out, "no {number} {base}"),
+/// An error that a call refuses with.
+pub trait Refused {
+    ghost refusal: { Self → Refusal };
+
+    /// The number of the question that was answered no.
+    fn number(&self) -> u8
+        ensures { result ≡ (refusal self.now).number };
+
+    /// Writes the values that go with the number, each after a space.
+    fn values<W: fmt::Write>(&self, f: &mut fmt::Formatter<W>) -> fmt::Result;
+
+    /// Writes the whole refusal.
+    fn tell<W: fmt::Write>(&self, f: &mut fmt::Formatter<W>) -> fmt::Result {
+        let number = self.number();
+        write!(f, "no {number}")?;
+        self.values(f)
     }
 }
 
-/// A rate without a divisor.
-pub fn divisor(e: InvalidDivisorError, out: &mut String) -> Result<(), AllocError> {
-    let number = numbers::of_divisor(e);
-    match e {
-        InvalidDivisorError::NonInteger(e) => {
-            let frequency = e.frequency;
-            let rate = e.baud_rate;
-            let prescaler = Prescaler(e.prescaler_division_factor);
-            write!(out, "no {number} {frequency} {rate} {prescaler}")
+impl Refused for InvalidAddressError {
+    ghost refusal = { address_refusal };
+
+    fn number(&self) -> u8 {
+        match self {
+            InvalidAddressError::InvalidStride(_) => 1,
+            InvalidAddressError::InvalidBaseAddress(_) => 2,
         }
-        InvalidDivisorError::OutOfRange { divisor } => write!(out, "no {number} {divisor}"),
-        _ => write!(out, "no {number}"),
     }
-}
 
-/// A divisor without a rate.
-pub fn baud_rate(e: InvalidBaudRateError, out: &mut String) -> Result<(), AllocError> {
-    let number = numbers::of_baud_rate(e);
-    match e {
-        InvalidBaudRateError::NonInteger(e) => {
-            let frequency = e.frequency;
-            let divisor = e.divisor;
-            let prescaler = Prescaler(e.prescaler_division_factor);
-            write!(out, "no {number} {frequency} {divisor} {prescaler}")
-        }
-        _ => write!(out, "no {number}"),
-    }
-}
-
-/// A device that was not initialised.
-pub fn init(e: InitError, out: &mut String) -> Result<(), AllocError> {
-    match e {
-        InitError::InvalidBaudRate(e) => divisor(e, out),
-        InitError::BudgetUsedUp(e) => budget(e, out),
-        InitError::DeviceNotPresent => {
-            let number = numbers::of_init(e);
-            write!(out, "no {number}")
+    fn values<W: fmt::Write>(&self, f: &mut fmt::Formatter<W>) -> fmt::Result {
+        match self {
+            InvalidAddressError::InvalidStride(stride) => write!(f, " {stride}"),
+            InvalidAddressError::InvalidBaseAddress(base) => write!(f, " {base}"),
         }
     }
 }
 
-/// A budget that was used up in a wait.
-pub fn budget(e: BudgetError, out: &mut String) -> Result<(), AllocError> {
-    let number = numbers::of_budget(e);
-    let wait = wait_name(e.wait);
-    write!(out, "no {number} {wait}")
-}
+impl Refused for InvalidDivisorError {
+    ghost refusal = { divisor_refusal };
 
-fn wait_name(wait: Wait) -> &'static str {
-    match wait {
-        Wait::Transmitter => "transmitter",
-        Wait::Drain => "drain",
-        Wait::TestByte => "test-byte",
-        Wait::TestMessageSent => "test-message-sent",
-        Wait::TestMessageReceived => "test-message-received",
-        Wait::Receive => "receive",
-        Wait::Send => "send",
+    fn number(&self) -> u8 {
+        match self {
+            InvalidDivisorError::ZeroFrequency => 3,
+            InvalidDivisorError::ZeroBaudRate => 4,
+            InvalidDivisorError::InvalidPrescaler => 5,
+            InvalidDivisorError::NonInteger(_) => 6,
+            InvalidDivisorError::OutOfRange { .. } => 7,
+        }
+    }
+
+    fn values<W: fmt::Write>(&self, f: &mut fmt::Formatter<W>) -> fmt::Result {
+        match self {
+            InvalidDivisorError::NonInteger(e) => {
+                let prescaler = Optional(e.prescaler_division_factor);
+                write!(f, " {} {} {prescaler}", e.frequency, e.baud_rate)
+            }
+            InvalidDivisorError::OutOfRange { divisor } => write!(f, " {divisor}"),
+            _ => Ok(()),
+        }
     }
 }
 
-/// A receive that found nothing.
-pub fn receive(e: ByteReceiveError, out: &mut String) -> Result<(), AllocError> {
-    let number = numbers::of_receive(e);
-    write!(out, "no {number}")
-}
+impl Refused for InvalidBaudRateError {
+    ghost refusal = { baud_refusal };
 
-/// A send that was refused.
-pub fn send(e: ByteSendError, out: &mut String) -> Result<(), AllocError> {
-    let number = numbers::of_send(e);
-    write!(out, "no {number}")
-}
-
-/// A remote that is not ready.
-pub fn remote(e: RemoteReadyToReceiveError, out: &mut String) -> Result<(), AllocError> {
-    let number = numbers::of_remote(e);
-    write!(out, "no {number}")
-}
-
-/// A loopback test that failed.
-pub fn loopback(e: LoopbackError, out: &mut String) -> Result<(), AllocError> {
-    let number = numbers::of_loopback(e);
-    match e {
-        LoopbackError::SendError(e) => {
-            let inner = numbers::of_send(e);
-            write!(out, "no {number} {inner}")
+    fn number(&self) -> u8 {
+        match self {
+            InvalidBaudRateError::ZeroFrequency => 3,
+            InvalidBaudRateError::ZeroDivisor => 18,
+            InvalidBaudRateError::InvalidPrescaler => 5,
+            InvalidBaudRateError::NonInteger(_) => 19,
         }
-        LoopbackError::UnexpectedLoopbackByte { actual } => {
-            write!(out, "no {number} {actual:02X}")
+    }
+
+    fn values<W: fmt::Write>(&self, f: &mut fmt::Formatter<W>) -> fmt::Result {
+        match self {
+            InvalidBaudRateError::NonInteger(e) => {
+                let prescaler = Optional(e.prescaler_division_factor);
+                write!(f, " {} {} {prescaler}", e.frequency, e.divisor)
+            }
+            _ => Ok(()),
         }
-        LoopbackError::UnexpectedLoopbackMsg => write!(out, "no {number}"),
-        LoopbackError::BudgetUsedUp(e) => budget(e, out),
+    }
+}
+
+impl Refused for BudgetError {
+    ghost refusal = { budget_refusal };
+
+    fn number(&self) -> u8 {
+        9
+    }
+
+    fn values<W: fmt::Write>(&self, f: &mut fmt::Formatter<W>) -> fmt::Result {
+        f.write_str(match self.wait {
+            Wait::Transmitter => " transmitter",
+            Wait::Drain => " drain",
+            Wait::TestByte => " test-byte",
+            Wait::TestMessageSent => " test-message-sent",
+            Wait::TestMessageReceived => " test-message-received",
+            Wait::Receive => " receive",
+            Wait::Send => " send",
+        })
+    }
+}
+
+impl Refused for InitError {
+    ghost refusal = { init_refusal };
+
+    fn number(&self) -> u8 {
+        match self {
+            InitError::DeviceNotPresent => 8,
+            InitError::InvalidBaudRate(e) => e.number(),
+            InitError::BudgetUsedUp(e) => e.number(),
+        }
+    }
+
+    fn values<W: fmt::Write>(&self, f: &mut fmt::Formatter<W>) -> fmt::Result {
+        match self {
+            InitError::DeviceNotPresent => Ok(()),
+            InitError::InvalidBaudRate(e) => e.values(f),
+            InitError::BudgetUsedUp(e) => e.values(f),
+        }
+    }
+}
+
+impl Refused for ByteReceiveError {
+    ghost refusal = { receive_refusal };
+
+    fn number(&self) -> u8 {
+        10
+    }
+
+    fn values<W: fmt::Write>(&self, _f: &mut fmt::Formatter<W>) -> fmt::Result {
+        Ok(())
+    }
+}
+
+impl Refused for ByteSendError {
+    ghost refusal = { send_refusal };
+
+    fn number(&self) -> u8 {
+        match self {
+            ByteSendError::NoCapacity => 11,
+            ByteSendError::RemoteNotClearToSend => 12,
+        }
+    }
+
+    fn values<W: fmt::Write>(&self, _f: &mut fmt::Formatter<W>) -> fmt::Result {
+        Ok(())
+    }
+}
+
+impl Refused for RemoteReadyToReceiveError {
+    ghost refusal = { remote_refusal };
+
+    fn number(&self) -> u8 {
+        match self {
+            RemoteReadyToReceiveError::NoRemoteConnectedNoDSR => 13,
+            RemoteReadyToReceiveError::RemoteNotClearToSend => 14,
+        }
+    }
+
+    fn values<W: fmt::Write>(&self, _f: &mut fmt::Formatter<W>) -> fmt::Result {
+        Ok(())
+    }
+}
+
+impl Refused for LoopbackError {
+    ghost refusal = { loopback_refusal };
+
+    fn number(&self) -> u8 {
+        match self {
+            LoopbackError::SendError(_) => 15,
+            LoopbackError::UnexpectedLoopbackByte { .. } => 16,
+            LoopbackError::UnexpectedLoopbackMsg => 17,
+            LoopbackError::BudgetUsedUp(e) => e.number(),
+        }
+    }
+
+    fn values<W: fmt::Write>(&self, f: &mut fmt::Formatter<W>) -> fmt::Result {
+        match self {
+            LoopbackError::SendError(e) => {
+                let inner = e.number();
+                write!(f, " {inner}")
+            }
+            LoopbackError::UnexpectedLoopbackByte { actual } => write!(f, " {}", Octet(*actual)),
+            LoopbackError::UnexpectedLoopbackMsg => Ok(()),
+            LoopbackError::BudgetUsedUp(e) => e.values(f),
+        }
     }
 }

@@ -2,89 +2,31 @@
 
 use crate::calls::Device;
 use crate::fault::Fault;
-use crate::refusals;
-use crate::show::{Hex, Setup};
+use crate::line::{Answered, Line};
+use crate::show::{Done, Hex, Setup, Spent, Two, Value};
 use crate::transfers::UNTOUCHED;
+use crate::values::Flag;
 use crate::words::Words;
-use std::fmt::Write;
 
 /// Plays one of these calls.
-pub fn answer(
-    device: &mut Device<'_>,
-    name: &str,
-    words: &mut Words<'_>,
-    out: &mut String,
-) -> Result<(), Fault> {
-    match name {
-        "init" => init(device, words, out),
-        "present" => present(device, words, out),
-        "connected" => connected(device, words, out),
-        "loopback" => loopback(device, words, out),
-        "config" => config(device, words, out),
-        "fifo" => fifo(device, words, out),
-        _ => Err(Fault::Unknown),
-    }
+pub fn answer(device: &mut Device<'_>, line: &mut Line<'_>) -> Answered {
+    Some(match line.name {
+        "init" => line.answer(
+            |words| Ok((words.config()?, words.one()?)),
+            |(config, budget)| Spent(device.init(config, budget)),
+        ),
+        "present" => line.ok(Words::none, |()| Flag(device.check_present())),
+        "connected" => line.answer(Words::none, |()| Done(device.check_connected())),
+        "loopback" => loopback(device, line),
+        "config" => line.ok(Words::none, |()| Setup(device.config())),
+        "fifo" => line.ok(Words::none, |()| Flag(device.fifo_enabled())),
+        _ => return None,
+    })
 }
 
-fn init(device: &mut Device<'_>, words: &mut Words<'_>, out: &mut String) -> Result<(), Fault> {
-    let config = words.config()?;
-    let budget = words.u16()?;
-    words.end()?;
-    let waited = device.init(config, budget);
-    match waited.result {
-        Ok(()) => out.write_str("ok")?,
-        Err(e) => refusals::init(e, out)?,
-    }
-    let fruitless = waited.fruitless;
-    write!(out, " fruitless {fruitless}")?;
-    Ok(())
-}
-
-fn present(device: &mut Device<'_>, words: &mut Words<'_>, out: &mut String) -> Result<(), Fault> {
-    words.end()?;
-    let present = u8::from(device.check_present());
-    write!(out, "ok {present}")?;
-    Ok(())
-}
-
-fn connected(
-    device: &mut Device<'_>,
-    words: &mut Words<'_>,
-    out: &mut String,
-) -> Result<(), Fault> {
-    words.end()?;
-    match device.check_connected() {
-        Ok(()) => out.write_str("ok")?,
-        Err(e) => refusals::remote(e, out)?,
-    }
-    Ok(())
-}
-
-fn loopback(device: &mut Device<'_>, words: &mut Words<'_>, out: &mut String) -> Result<(), Fault> {
-    let budget = words.u16()?;
-    words.end()?;
+fn loopback(device: &mut Device<'_>, line: &mut Line<'_>) -> Result<(), Fault> {
+    let budget = line.read(Words::one)?;
     let mut place = [UNTOUCHED; 16];
     let waited = device.test_loopback(&mut place, budget);
-    match waited.result {
-        Ok(()) => out.write_str("ok")?,
-        Err(e) => refusals::loopback(e, out)?,
-    }
-    let fruitless = waited.fruitless;
-    let held = Hex(&place);
-    write!(out, " fruitless {fruitless} {held}")?;
-    Ok(())
-}
-
-fn config(device: &mut Device<'_>, words: &mut Words<'_>, out: &mut String) -> Result<(), Fault> {
-    words.end()?;
-    let setup = Setup(device.config());
-    write!(out, "ok {setup}")?;
-    Ok(())
-}
-
-fn fifo(device: &mut Device<'_>, words: &mut Words<'_>, out: &mut String) -> Result<(), Fault> {
-    words.end()?;
-    let fifo = u8::from(device.fifo_enabled());
-    write!(out, "ok {fifo}")?;
-    Ok(())
+    line.tell(&Two(Spent(waited), Hex(&place)))
 }

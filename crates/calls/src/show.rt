@@ -1,10 +1,21 @@
-//! How values are written in answers.
+//! How answers are written.
 
+use crate::refusals::Refused;
+use crate::values::{DataBits, Flag, Level, Octet, Optional, ParityName, Rate};
 use backends::{Access, Kind};
-use registers::config::{BaudRate, Config};
-use registers::fcr::FifoTriggerLevel;
-use registers::lcr::Parity;
+use driver::{Transferred, Waited};
+use registers::config::Config;
 use std::fmt;
+
+/// Two values in a row.
+#[derive(Drop)]
+pub struct Two<T, U>(pub T, pub U);
+
+impl<T: fmt::Display, U: fmt::Display> fmt::Display for Two<T, U> {
+    fn fmt<W: fmt::Write>(&self, f: &mut fmt::Formatter<W>) -> fmt::Result {
+        write!(f, "{} {}", self.0, self.1)
+    }
+}
 
 /// Bytes: two digits each, `-` for none.
 #[derive(Drop)]
@@ -22,53 +33,6 @@ impl fmt::Display for Hex<'_> {
     }
 }
 
-/// A prescaler: its number, `-` for none.
-#[derive(Drop)]
-pub struct Prescaler(pub Option<u32>);
-
-impl fmt::Display for Prescaler {
-    fn fmt<W: fmt::Write>(&self, f: &mut fmt::Formatter<W>) -> fmt::Result {
-        match self.0 {
-            None => f.write_str("-"),
-            Some(factor) => write!(f, "{factor}"),
-        }
-    }
-}
-
-/// A rate: its name, the number of a custom one.
-#[derive(Drop)]
-pub struct Rate(pub BaudRate);
-
-impl fmt::Display for Rate {
-    fn fmt<W: fmt::Write>(&self, f: &mut fmt::Formatter<W>) -> fmt::Result {
-        match self.0 {
-            BaudRate::Custom(rate) => write!(f, "{rate}"),
-            named => write!(f, "{named:?}"),
-        }
-    }
-}
-
-/// How many characters a trigger level is, in digits.
-pub fn level_name(level: FifoTriggerLevel) -> &'static str {
-    match level {
-        FifoTriggerLevel::One => "1",
-        FifoTriggerLevel::Four => "4",
-        FifoTriggerLevel::Eight => "8",
-        FifoTriggerLevel::Fourteen => "14",
-    }
-}
-
-/// A parity's name.
-pub fn parity_name(parity: Parity) -> &'static str {
-    match parity {
-        Parity::Disabled => "disabled",
-        Parity::Odd => "odd",
-        Parity::Even => "even",
-        Parity::Forced1 => "forced1",
-        Parity::Forced0 => "forced0",
-    }
-}
-
 /// A configuration: the nine words that `init` takes.
 #[derive(Drop)]
 pub struct Setup<'a>(pub &'a Config);
@@ -78,18 +42,15 @@ impl fmt::Display for Setup<'_> {
         let config = self.0;
         let frequency = config.frequency;
         let rate = Rate(config.baud_rate);
-        let prescaler = Prescaler(config.prescaler_division_factor);
-        let level = match config.fifo_trigger_level {
-            None => "-",
-            Some(level) => level_name(level),
-        };
+        let prescaler = Optional(config.prescaler_division_factor);
+        let level = Optional(config.fifo_trigger_level.map(Level));
         write!(f, "{frequency} {rate} {prescaler} {level} ")?;
-        let bits = config.data_bits.to_integer();
-        let stop = u8::from(config.extra_stop_bits);
-        let parity = parity_name(config.parity);
-        let interrupts = config.interrupts;
-        let cts = u8::from(config.check_cts_before_sending);
-        write!(f, "{bits} {stop} {parity} {interrupts:02X} {cts}")
+        let bits = DataBits(config.data_bits);
+        let stop = Flag(config.extra_stop_bits);
+        let parity = ParityName(config.parity);
+        let interrupts = Octet(config.interrupts);
+        let cts = Flag(config.check_cts_before_sending);
+        write!(f, "{bits} {stop} {parity} {interrupts} {cts}")
     }
 }
 
@@ -112,5 +73,67 @@ impl fmt::Display for Accesses<'_> {
             write!(f, " {kind}{offset}={value:02X}")?;
         }
         Ok(())
+    }
+}
+
+/// An answer with a value.
+#[derive(Drop)]
+pub struct Value<V>(pub V);
+
+impl<V: fmt::Display> fmt::Display for Value<V> {
+    fn fmt<W: fmt::Write>(&self, f: &mut fmt::Formatter<W>) -> fmt::Result {
+        write!(f, "ok {}", self.0)
+    }
+}
+
+/// A value, or why it was refused.
+#[derive(Drop)]
+pub struct Outcome<V, E>(pub Result<V, E>);
+
+impl<V: fmt::Display, E: Refused> fmt::Display for Outcome<V, E> {
+    fn fmt<W: fmt::Write>(&self, f: &mut fmt::Formatter<W>) -> fmt::Result {
+        match &self.0 {
+            Ok(value) => write!(f, "ok {value}"),
+            Err(e) => e.tell(f),
+        }
+    }
+}
+
+/// What was done, or why it was refused.
+#[derive(Drop)]
+pub struct Done<E>(pub Result<(), E>);
+
+impl<E: Refused> fmt::Display for Done<E> {
+    fn fmt<W: fmt::Write>(&self, f: &mut fmt::Formatter<W>) -> fmt::Result {
+        match &self.0 {
+            Ok(()) => f.write_str("ok"),
+            Err(e) => e.tell(f),
+        }
+    }
+}
+
+/// How a call with a budget ended, and what it spent.
+#[derive(Drop)]
+pub struct Spent<E>(pub Waited<Result<(), E>>);
+
+impl<E: Refused + Copy> fmt::Display for Spent<E> {
+    fn fmt<W: fmt::Write>(&self, f: &mut fmt::Formatter<W>) -> fmt::Result {
+        write!(f, "{} fruitless {}", Done(self.0.result), self.0.fruitless)
+    }
+}
+
+/// How an exact transfer ended, and what it moved and spent.
+#[derive(Drop)]
+pub struct Moved(pub Transferred);
+
+impl fmt::Display for Moved {
+    fn fmt<W: fmt::Write>(&self, f: &mut fmt::Formatter<W>) -> fmt::Result {
+        let moved = self.0.moved;
+        let fruitless = self.0.fruitless;
+        write!(
+            f,
+            "{} moved {moved} fruitless {fruitless}",
+            Done(self.0.result)
+        )
     }
 }

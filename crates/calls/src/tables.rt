@@ -2,22 +2,23 @@
 
 use crate::divisor_list::DIVISORS;
 use crate::fault::Fault;
-use crate::show::Setup;
+use crate::line::{Answered, Line};
+use crate::show::{Setup, Value};
 use crate::words::Words;
 use registers::config::Config;
 use registers::divisor::CLK_FREQUENCY_HZ;
 use registers::{FIFO_SIZE, NUM_REGISTERS, fcr, ier, isr, lcr, lsr, mcr, msr, offsets, psd};
-use std::fmt::Write;
+use std::fmt;
 
 /// Answers one of these questions.
-pub fn answer(name: &str, words: &mut Words<'_>, out: &mut String) -> Result<(), Fault> {
-    match name {
-        "constants" => constants(words, out),
-        "bits" => bits(words, out),
-        "divisors" => divisors(words, out),
-        "default" => default(words, out),
-        _ => Err(Fault::Unknown),
-    }
+pub fn answer(line: &mut Line<'_>) -> Answered {
+    Some(match line.name {
+        "constants" => line.answer(Words::none, |()| Constants),
+        "bits" => bits(line),
+        "divisors" => line.answer(Words::none, |()| Divisors),
+        "default" => default(line),
+        _ => return None,
+    })
 }
 
 /// The offsets, in the order of an answer.
@@ -36,16 +37,18 @@ const OFFSETS: [u8; 12] = [
     offsets::PSD,
 ];
 
-fn constants(words: &mut Words<'_>, out: &mut String) -> Result<(), Fault> {
-    words.end()?;
-    let frequency = CLK_FREQUENCY_HZ;
-    let size = FIFO_SIZE;
-    let registers = NUM_REGISTERS;
-    write!(out, "ok {frequency} {size} {registers}")?;
-    for offset in OFFSETS {
-        write!(out, " {offset}")?;
+/// The clock, the sizes and the offsets.
+#[derive(Drop)]
+struct Constants;
+
+impl fmt::Display for Constants {
+    fn fmt<W: fmt::Write>(&self, f: &mut fmt::Formatter<W>) -> fmt::Result {
+        write!(f, "ok {CLK_FREQUENCY_HZ} {FIFO_SIZE} {NUM_REGISTERS}")?;
+        for offset in OFFSETS {
+            write!(f, " {offset}")?;
+        }
+        Ok(())
     }
-    Ok(())
 }
 
 const IER_BITS: [u8; 8] = [
@@ -151,30 +154,40 @@ fn bits_of(register: &str) -> Result<[u8; 8], Fault> {
     }
 }
 
-fn bits(words: &mut Words<'_>, out: &mut String) -> Result<(), Fault> {
-    let bits = bits_of(words.word()?)?;
-    words.end()?;
-    out.write_str("ok")?;
-    for bit in bits {
-        write!(out, " {bit:02X}")?;
+/// The bits of a register.
+#[derive(Drop)]
+struct BitList([u8; 8]);
+
+impl fmt::Display for BitList {
+    fn fmt<W: fmt::Write>(&self, f: &mut fmt::Formatter<W>) -> fmt::Result {
+        f.write_str("ok")?;
+        for bit in self.0 {
+            write!(f, " {bit:02X}")?;
+        }
+        Ok(())
     }
-    Ok(())
 }
 
-fn divisors(words: &mut Words<'_>, out: &mut String) -> Result<(), Fault> {
-    words.end()?;
-    out.write_str("ok")?;
-    for divisor in DIVISORS {
-        let value = divisor.value();
-        write!(out, " {value}")?;
-    }
-    Ok(())
+fn bits(line: &mut Line<'_>) -> Result<(), Fault> {
+    let bits = bits_of(line.read(Words::word)?)?;
+    line.tell(&BitList(bits))
 }
 
-fn default(words: &mut Words<'_>, out: &mut String) -> Result<(), Fault> {
-    words.end()?;
-    let config = Config::default();
-    let setup = Setup(&config);
-    write!(out, "ok {setup}")?;
-    Ok(())
+/// The numbers of the named divisors.
+#[derive(Drop)]
+struct Divisors;
+
+impl fmt::Display for Divisors {
+    fn fmt<W: fmt::Write>(&self, f: &mut fmt::Formatter<W>) -> fmt::Result {
+        f.write_str("ok")?;
+        for divisor in DIVISORS {
+            write!(f, " {}", divisor.value())?;
+        }
+        Ok(())
+    }
+}
+
+fn default(line: &mut Line<'_>) -> Result<(), Fault> {
+    line.read(Words::none)?;
+    line.tell(&Value(Setup(&Config::default())))
 }
