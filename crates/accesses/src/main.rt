@@ -7,13 +7,13 @@ mod play;
 mod report;
 
 use play::play;
-use report::report;
+use report::Report;
 use std::io::Read;
 
 fn main(rt: HostRuntime) -> anyhow::Result<()> {
     let mut input = Vec::new(rt.alloc());
     rt.stdin().read_to_end(&mut input)?;
     let played = play(&input);
-    rt.print(report(rt.alloc(), &played)?)?;
+    rt.print(Report(&played))?;
     Ok(())
 }

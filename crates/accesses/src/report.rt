@@ -2,52 +2,77 @@
 
 use crate::play::Played;
 use backends::{Access, Kind};
+use driver::Waited;
 use registers::error::{InitError, Wait};
-use std::alloc::{AllocError, Global};
+use std::fmt;
 
 /// A header, a line for each access, and why init was refused, if it was.
-pub fn report(heap: Global, played: &Played<'_>) -> Result<String, AllocError> {
-    let mut text = String::from_str(heap, "kind offset value\n")?;
-    for access in played.uart.backend().log().recorded() {
-        text.push_str(line(heap, access)?.as_str())?;
-    }
-    if let Err(e) = played.answer.result {
-        text.push_str(refusal(heap, e, played.answer.fruitless)?.as_str())?;
-    }
-    Ok(text)
-}
+#[derive(Drop)]
+pub struct Report<'a, 's>(pub &'a Played<'s>);
 
-/// One access: its kind, its register, and its byte in hexadecimal.
-fn line(heap: Global, access: &Access) -> Result<String, AllocError> {
-    let kind = match access.kind {
-        Kind::Read => 'r',
-        Kind::Write => 'w',
-    };
-    let offset = access.offset;
-    let value = access.value;
-    format!(in heap; "{kind} {offset} {value:02X}\n")
-}
-
-/// Why init was refused.
-fn refusal(heap: Global, e: InitError, polls: u32) -> Result<String, AllocError> {
-    match e {
-        InitError::DeviceNotPresent => String::from_str(heap, "refused: 8, device not present\n"),
-        InitError::InvalidBaudRate(e) => format!(in heap; "refused: no divisor, {e:?}\n"),
-        InitError::BudgetUsedUp(e) => {
-            let wait = wait_name(e.wait);
-            format!(in heap; "refused: 9, budget used up waiting for {wait} after {polls} polls\n")
+impl fmt::Display for Report<'_, '_> {
+    fn fmt<W: fmt::Write>(&self, f: &mut fmt::Formatter<W>) -> fmt::Result {
+        f.write_str("kind offset value\n")?;
+        for access in self.0.uart.backend().log().recorded() {
+            writeln!(f, "{}", Row(access))?;
+        }
+        let Waited { result, fruitless } = self.0.answer;
+        match result {
+            Ok(()) => Ok(()),
+            Err(e) => writeln!(f, "refused: {}", Refusal(e, fruitless)),
         }
     }
 }
 
-fn wait_name(wait: Wait) -> &'static str {
-    match wait {
-        Wait::Transmitter => "the transmitter",
-        Wait::Drain => "the receiver to drain",
-        Wait::TestByte => "the test byte",
-        Wait::TestMessageSent => "the test message to be sent",
-        Wait::TestMessageReceived => "the test message to be received",
-        Wait::Receive => "a character",
-        Wait::Send => "room to send",
+/// One access: its kind, its register, and its byte in hexadecimal.
+#[derive(Drop)]
+struct Row<'a>(&'a Access);
+
+impl fmt::Display for Row<'_> {
+    fn fmt<W: fmt::Write>(&self, f: &mut fmt::Formatter<W>) -> fmt::Result {
+        let kind = match self.0.kind {
+            Kind::Read => 'r',
+            Kind::Write => 'w',
+        };
+        write!(f, "{kind} {} {:02X}", self.0.offset, self.0.value)
+    }
+}
+
+/// Why init was refused, after this many fruitless polls.
+#[derive(Drop)]
+struct Refusal(InitError, u32);
+
+impl fmt::Display for Refusal {
+    fn fmt<W: fmt::Write>(&self, f: &mut fmt::Formatter<W>) -> fmt::Result {
+        match self.0 {
+            InitError::DeviceNotPresent => f.write_str("8, device not present"),
+            InitError::InvalidBaudRate(e) => write!(f, "no divisor, {e:?}"),
+            InitError::BudgetUsedUp(e) => {
+                let wait = Awaited(e.wait);
+                let polls = self.1;
+                write!(
+                    f,
+                    "9, budget used up waiting for {wait} after {polls} polls"
+                )
+            }
+        }
+    }
+}
+
+/// What was waited for.
+#[derive(Drop)]
+struct Awaited(Wait);
+
+impl fmt::Display for Awaited {
+    fn fmt<W: fmt::Write>(&self, f: &mut fmt::Formatter<W>) -> fmt::Result {
+        f.write_str(match self.0 {
+            Wait::Transmitter => "the transmitter",
+            Wait::Drain => "the receiver to drain",
+            Wait::TestByte => "the test byte",
+            Wait::TestMessageSent => "the test message to be sent",
+            Wait::TestMessageReceived => "the test message to be received",
+            Wait::Receive => "a character",
+            Wait::Send => "room to send",
+        })
     }
 }

@@ -10,7 +10,7 @@ use anyhow::anyhow;
 use driver::Uart16550;
 use ledger::play;
 use registers::config::Config;
-use report::report;
+use report::Report;
 use run::{calls, chip};
 
 fn main(rt: HostRuntime) -> anyhow::Result<()> {
@@ -21,6 +21,9 @@ fn main(rt: HostRuntime) -> anyhow::Result<()> {
     if answer.result.is_err() {
         return Err(anyhow!("init was refused"));
     }
-    rt.print(report(heap, &list, uart.backend())?)?;
+    rt.print(Report {
+        list: &list,
+        chip: uart.backend(),
+    })?;
     Ok(())
 }

@@ -2,70 +2,79 @@
 
 use bench::Bench;
 use ledger::{Answer, Call, Entry};
-use std::alloc::{AllocError, Global};
+use std::fmt;
 
 /// A line for each call, and then where the characters are.
-pub fn report(heap: Global, list: &Vec<Entry>, chip: &Bench) -> Result<String, AllocError> {
-    let mut text = String::new(heap);
-    for entry in list.iter() {
-        text.push_str(line(heap, entry)?.as_str())?;
-    }
-    text.push_str(account(heap, handed(list), chip)?.as_str())?;
-    Ok(text)
+#[derive(Drop)]
+pub struct Report<'a> {
+    pub list: &'a [Entry],
+    pub chip: &'a Bench,
 }
 
-/// How many characters the receives handed out.
-fn handed(list: &Vec<Entry>) -> usize {
-    let mut sum: usize = 0;
-    for entry in list.iter() {
-        if let Call::Receive(_) = &entry.call {
-            if let Answer::Count(n) = entry.answer {
-                sum = sum.saturating_add(n);
-            }
+impl Report<'_> {
+    /// How many characters the receives handed out.
+    fn handed(&self) -> usize {
+        self.list
+            .iter()
+            .filter_map(|entry| match (&entry.call, &entry.answer) {
+                (Call::Receive(_), Answer::Count(n)) => Some(*n),
+                _ => None,
+            })
+            .fold(0, usize::saturating_add)
+    }
+}
+
+impl fmt::Display for Report<'_> {
+    fn fmt<W: fmt::Write>(&self, f: &mut fmt::Formatter<W>) -> fmt::Result {
+        for entry in self.list {
+            write!(f, "{}", Told(entry))?;
         }
+        // Handed out, waiting and lost are together what arrived.
+        let handed = self.handed();
+        let waiting = self.chip.waiting();
+        let lost = self.chip.counts().lost;
+        let arrived = self.chip.arrived().len();
+        writeln!(f, "handed out {handed}, waiting {waiting}, lost {lost}")?;
+        writeln!(f, "arrived {arrived}")?;
+        let left = self.chip.left();
+        let held = self.chip.held();
+        writeln!(f, "on the line {}, held {held}:{}", left.len(), Bytes(left))
     }
-    sum
 }
 
-/// A call, and what it answered.
-fn line(heap: Global, entry: &Entry) -> Result<String, AllocError> {
-    match entry.answer {
-        Answer::Register(value) => format!(in heap; "lsr: {value:02X}\n"),
-        Answer::Count(n) => match &entry.call {
-            Call::Receive(buffer) => bytes(heap, "received", n, buffer),
-            Call::Send(buffer) => bytes(heap, "sent", n, buffer),
-            _ => Ok(String::new(heap)),
-        },
-        _ => Ok(String::new(heap)),
+/// A line with what a call answered, for the calls that answer with characters or a status.
+#[derive(Drop)]
+struct Told<'a>(&'a Entry);
+
+impl fmt::Display for Told<'_> {
+    fn fmt<W: fmt::Write>(&self, f: &mut fmt::Formatter<W>) -> fmt::Result {
+        match (&self.0.call, &self.0.answer) {
+            (_, Answer::Register(value)) => writeln!(f, "lsr: {value:02X}"),
+            (Call::Receive(buffer), Answer::Count(n)) => {
+                writeln!(f, "received {n}:{}", Bytes(first(buffer, *n)))
+            }
+            (Call::Send(buffer), Answer::Count(n)) => {
+                writeln!(f, "sent {n}:{}", Bytes(first(buffer, *n)))
+            }
+            _ => Ok(()),
+        }
     }
 }
 
 /// The first bytes of a buffer, as many as were moved.
-fn bytes(heap: Global, what: &str, n: usize, buffer: &Vec<u8>) -> Result<String, AllocError> {
-    let mut text = format!(in heap; "{what} {n}:")?;
-    for byte in buffer.iter().take(n) {
-        let b = *byte;
-        text.push_str(format!(in heap; " {b:02X}")?.as_str())?;
-    }
-    text.push_str("\n")?;
-    Ok(text)
+fn first(buffer: &[u8], n: usize) -> &[u8] {
+    &buffer[..n.min(buffer.len())]
 }
 
-/// Handed out, waiting and lost are together what arrived.
-fn account(heap: Global, handed: usize, chip: &Bench) -> Result<String, AllocError> {
-    let waiting = chip.waiting();
-    let lost = chip.counts().lost;
-    let arrived = chip.arrived().len();
-    let mut text = format!(in heap;
-        "handed out {handed}, waiting {waiting}, lost {lost}\narrived {arrived}\n"
-    )?;
-    let left = chip.left().len();
-    let held = chip.held();
-    text.push_str(format!(in heap; "on the line {left}, held {held}:")?.as_str())?;
-    for byte in chip.left() {
-        let b = *byte;
-        text.push_str(format!(in heap; " {b:02X}")?.as_str())?;
+/// Bytes in hexadecimal, each after a space.
+#[derive(Drop)]
+struct Bytes<'a>(&'a [u8]);
+
+impl fmt::Display for Bytes<'_> {
+    fn fmt<W: fmt::Write>(&self, f: &mut fmt::Formatter<W>) -> fmt::Result {
+        for byte in self.0 {
+            write!(f, " {byte:02X}")?;
+        }
+        Ok(())
     }
-    text.push_str("\n")?;
-    Ok(text)
 }
