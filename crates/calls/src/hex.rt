@@ -1,6 +1,6 @@
 //! Hexadecimal: two capital digits to a byte.
 
-ghost use Rattle.std.specs.Prelude.{ℕ, IfOk, Some, None};
+ghost use Rattle.std.specs.Prelude.{ℕ, IfOk, MatchOption};
 ghost use Rattle.calls.specs.Hex.{Digit, Writes, Means};
 
 use crate::fault::Fault;
@@ -8,10 +8,7 @@ use std::alloc::Global;
 
 /// The value of a digit, where the character is one.
 fn digit(character: u8) -> Option<u8>
-    ensures { elim result [
-      | Some n ↦ Digit character n
-      | None ↦ ((n : ℕ) → Digit character n → ⊥)
-    ] }
+    ensures { MatchOption result ((n : ℕ) → ¬ Digit character n) (Digit character) }
 {
     match character {
         b'0'..=b'9' => Some(character - b'0'),
@@ -22,10 +19,7 @@ fn digit(character: u8) -> Option<u8>
 
 /// The byte that two digits write.
 pub fn byte_of(high: u8, low: u8) -> Option<u8>
-    ensures { elim result [
-      | Some b ↦ Writes high low b
-      | None ↦ ((b : ℕ) → Writes high low b → ⊥)
-    ] }
+    ensures { MatchOption result ((b : ℕ) → ¬ Writes high low b) (Writes high low) }
 {
     match (digit(high), digit(low)) {
         (Some(high), Some(low)) => Some(high * 16 + low),
@@ -41,14 +35,12 @@ pub fn bytes_of(heap: Global, word: &[u8]) -> Result<Vec<u8>, Fault>
     if word == b"-".as_slice() {
         return Ok(bytes);
     }
-    if word.is_empty() || word.len() % 2 != 0 {
+    let (pairs, rest) = word.as_chunks::<2>();
+    if pairs.is_empty() || !rest.is_empty() {
         return Err(Fault::Malformed);
     }
-    for place in 0..word.len() / 2 {
-        match byte_of(word[2 * place], word[2 * place + 1]) {
-            Some(byte) => bytes.push(byte)?,
-            None => return Err(Fault::Malformed),
-        }
+    for [high, low] in pairs {
+        bytes.push(byte_of(*high, *low).ok_or(Fault::Malformed)?)?;
     }
     Ok(bytes)
 }

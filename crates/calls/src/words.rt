@@ -78,9 +78,8 @@ impl<'a> Words<'a> {
     /// The nine words of a configuration.
     pub fn config(&mut self) -> Result<Config, Fault> {
         let (frequency, Rate(baud_rate), Optional(prescaler_division_factor)) = self.three()?;
-        let (level, DataBits(data_bits), Flag(extra_stop_bits)) = self.three()?;
+        let (Optional(level), DataBits(data_bits), Flag(extra_stop_bits)) = self.three()?;
         let (ParityName(parity), Octet(interrupts), Flag(check_cts_before_sending)) = self.three()?;
-        let Optional(level) = level;
         Ok(Config {
             interrupts,
             frequency,
