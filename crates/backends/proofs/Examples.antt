@@ -4,7 +4,8 @@ use lib.Count.{ones}
 use Rattle.registers.specs.Refusal.{Refusal, address_refusal}
 use Rattle.registers.specs.declared.error.InvalidAddressError.{InvalidAddressError}
 use Rattle.backends.specs.declared.place.MmioPlace.{MmioPlace}
-use Rattle.backends.specs.Place.{PowerOfTwo, MmioFits, NoMmio, bad_stride, too_high}
+use Rattle.std.specs.Int.{IsPowerOfTwo}
+use Rattle.backends.specs.Place.{MmioFits, NoMmio, bad_stride, too_high}
 use Rattle.backends.specs.Worked.{WorkedAddresses}
 use Rattle.backends.proofs.Powers.{power_ones}
 
@@ -29,7 +30,7 @@ refused_not_ok base stride (Ok p) why a n = absurd (not_both base stride why a.0
 refused_not_ok base stride (Err e) why a n = refl
 
 -- three is no power of two
-three : PowerOfTwo 3 → ⊥
+three : IsPowerOfTwo 3 → ⊥
 unfolding ones
 three q = let e : ◌≡◌ {A = ℕ} 2 1 = power_ones 3 q in omega arith
 

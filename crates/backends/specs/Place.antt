@@ -1,24 +1,21 @@
 -- Where eight registers may stand: the two questions about a base address and a stride.
-use Rattle.std.specs.Prelude.{◌≡◌, ℕ, ◌+◌, ◌-◌, ◌*◌, ◌/◌, ◌%◌, ◌^◌, ◌<◌, ◌≤◌, cond, [], ◌∷◌, ◌==◌, ◌≢◌, Some, None, Option, nat_lt}
+use Rattle.std.specs.Prelude.{ℕ, ◌+◌, ◌-◌, ◌*◌, ◌/◌, ◌%◌, ◌^◌, ◌<◌, ◌≤◌, cond, [], ◌∷◌, ◌==◌, ◌≢◌, Some, None, Option, nat_lt}
+use Rattle.std.specs.Int.{IsPowerOfTwo}
 use Rattle.registers.specs.Refusal.{Refusal, refusal, amount}
 
 -- the address of the register k
 abbrev pub register : ℕ → ℕ → ℕ → ℕ
 register base stride k = base + k * stride
 
--- n is a power of two
-abbrev pub PowerOfTwo : ℕ → Type 0
-PowerOfTwo n = (k : ℕ) × (n ≡ 2 ^ k)
-
 -- the stride is a power of two, and the last register has a 64-bit address
 pub record MmioFits (base stride : ℕ) : Type 0 where
-  pub power : PowerOfTwo stride
+  pub power : IsPowerOfTwo stride
   pub last : register base stride 7 < 2 ^ 64
 
 -- why registers cannot stand there: the first question that is answered no
 pub data NoMmio (base stride : ℕ) : Refusal → Type 0 where
-  bad_stride : (PowerOfTwo stride → ⊥) → NoMmio base stride (refusal 1 (amount stride ∷ []))
-  too_high : PowerOfTwo stride → 2 ^ 64 ≤ register base stride 7 → NoMmio base stride (refusal 2 (amount base ∷ []))
+  bad_stride : (IsPowerOfTwo stride → ⊥) → NoMmio base stride (refusal 1 (amount stride ∷ []))
+  too_high : IsPowerOfTwo stride → 2 ^ 64 ≤ register base stride 7 → NoMmio base stride (refusal 2 (amount base ∷ []))
 
 -- the last register has a 16-bit port; ports have no stride
 abbrev pub PortFits : ℕ → Type 0
