@@ -17,4 +17,4 @@ abbrev pub quotient_refusal : ℕ → ℕ → QuotientError → Refusal
 quotient_refusal z n ZeroFrequency = refusal 3 []
 quotient_refusal z n ZeroFactor = refusal z []
 quotient_refusal z n InvalidPrescaler = refusal 5 []
-quotient_refusal z n (NonInteger f k p) = refusal n (amount f ∷ amount k ∷ optional p ∷ [])
+quotient_refusal z n (NonInteger e) = refusal n (amount e.frequency ∷ amount e.factor ∷ optional e.prescaler_division_factor ∷ [])

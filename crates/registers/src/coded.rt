@@ -1,4 +1,5 @@
-//! Values that a field of a register holds as codes.
+//! Values that a field of a register holds as codes. Not `From`: a code is not the number that the
+//! value stands for, so it is asked for by name.
 
 ghost use Rattle.std.specs.Prelude.{◌≡◌, ℕ, ◌%◌, ◌^◌};
 ghost use Rattle.registers.specs.Fields.{field_at, FieldSet, IsCoding};

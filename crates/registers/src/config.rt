@@ -68,6 +68,24 @@ impl BaudRate {
     }
 }
 
+impl From<BaudRate> for u32 {
+    ghost from_gives = { λ b n. n ≡ rate b };
+
+    /// The rate as a number.
+    fn from(rate: BaudRate) -> u32 {
+        rate.to_integer()
+    }
+}
+
+impl From<u32> for BaudRate {
+    ghost from_gives = { NamedRate };
+
+    /// The rate with this number: by its name where it has one, else `Custom`.
+    fn from(value: u32) -> Self {
+        Self::from_integer(value)
+    }
+}
+
 // Not as the traits `PartialOrd` and `Ord`: their laws ask that what compares as equal is equal, and
 // `Custom(9_600)` and `Baud9600` are two values of the same number.
 impl BaudRate {

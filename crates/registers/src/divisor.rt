@@ -16,17 +16,21 @@ pub const CLK_FREQUENCY_HZ: u32 = 1_843_200;
 /// The largest divisor that its two bytes hold.
 pub const MAX_DIVISOR: u32 = 65_535;
 
-/// Why the formula has no quotient: the question that is answered no.
+/// The formula with one number wanted: 16 × (prescaler + 1) × factor × quotient = frequency.
+#[derive(Clone, Copy)]
+struct Formula {
+    frequency: u32,
+    factor: u32,
+    prescaler_division_factor: Option<u32>,
+}
+
+/// Why there is no quotient: the question that is answered no.
 #[derive(Clone, Copy)]
 enum QuotientError {
     ZeroFrequency,
     ZeroFactor,
     InvalidPrescaler,
-    NonInteger {
-        frequency: u32,
-        factor: u32,
-        prescaler_division_factor: Option<u32>,
-    },
+    NonInteger(Formula),
 }
 
 impl From<QuotientError> for InvalidDivisorError {
@@ -37,14 +41,10 @@ impl From<QuotientError> for InvalidDivisorError {
             QuotientError::ZeroFrequency => Self::ZeroFrequency,
             QuotientError::ZeroFactor => Self::ZeroBaudRate,
             QuotientError::InvalidPrescaler => Self::InvalidPrescaler,
-            QuotientError::NonInteger {
-                frequency,
-                factor,
-                prescaler_division_factor,
-            } => Self::NonInteger(NonIntegerDivisorError {
-                frequency,
-                baud_rate: factor,
-                prescaler_division_factor,
+            QuotientError::NonInteger(formula) => Self::NonInteger(NonIntegerDivisorError {
+                frequency: formula.frequency,
+                baud_rate: formula.factor,
+                prescaler_division_factor: formula.prescaler_division_factor,
             }),
         }
     }
@@ -58,50 +58,45 @@ impl From<QuotientError> for InvalidBaudRateError {
             QuotientError::ZeroFrequency => Self::ZeroFrequency,
             QuotientError::ZeroFactor => Self::ZeroDivisor,
             QuotientError::InvalidPrescaler => Self::InvalidPrescaler,
-            QuotientError::NonInteger {
-                frequency,
-                factor,
-                prescaler_division_factor,
-            } => Self::NonInteger(NonIntegerBaudRateError {
-                frequency,
-                divisor: factor,
-                prescaler_division_factor,
+            QuotientError::NonInteger(formula) => Self::NonInteger(NonIntegerBaudRateError {
+                frequency: formula.frequency,
+                divisor: formula.factor,
+                prescaler_division_factor: formula.prescaler_division_factor,
             }),
         }
     }
 }
 
-/// The number n with 16 × (prescaler + 1) × factor × n = frequency, where there is one.
-fn quotient(
-    frequency: u32,
-    factor: u32,
-    prescaler_division_factor: Option<u32>,
-) -> Result<u32, QuotientError>
-    ensures { elim result [
-      | Ok n ↦ IsQuotient frequency factor prescaler_division_factor n
-      | Err e ↦ NoDivisor frequency factor prescaler_division_factor (quotient_refusal 4 6 e) × NoRate frequency factor prescaler_division_factor (quotient_refusal 18 19 e)
-    ] }
-{
-    if frequency == 0 {
-        return Err(QuotientError::ZeroFrequency);
-    }
-    if factor == 0 {
-        return Err(QuotientError::ZeroFactor);
-    }
-    let prescaler = prescaler_division_factor.unwrap_or(0);
-    if prescaler > 15 {
-        return Err(QuotientError::InvalidPrescaler);
-    }
-    let unit = 16 * (u64::from(prescaler) + 1) * u64::from(factor);
-    let n = u64::from(frequency) / unit;
-    if n * unit != u64::from(frequency) {
-        return Err(QuotientError::NonInteger {
+impl Formula {
+    /// The quotient. Refuses by the first question that is answered no.
+    fn quotient(self) -> Result<u32, QuotientError>
+        ensures { elim result [
+          | Ok n ↦ IsQuotient self.frequency self.factor self.prescaler_division_factor n
+          | Err e ↦ NoDivisor self.frequency self.factor self.prescaler_division_factor (quotient_refusal 4 6 e) × NoRate self.frequency self.factor self.prescaler_division_factor (quotient_refusal 18 19 e)
+        ] }
+    {
+        let Self {
             frequency,
             factor,
             prescaler_division_factor,
-        });
+        } = self;
+        if frequency == 0 {
+            return Err(QuotientError::ZeroFrequency);
+        }
+        if factor == 0 {
+            return Err(QuotientError::ZeroFactor);
+        }
+        let prescaler = prescaler_division_factor.unwrap_or(0);
+        if prescaler > 15 {
+            return Err(QuotientError::InvalidPrescaler);
+        }
+        let unit = 16 * (u64::from(prescaler) + 1) * u64::from(factor);
+        let n = u64::from(frequency) / unit;
+        if n * unit != u64::from(frequency) {
+            return Err(QuotientError::NonInteger(self));
+        }
+        Ok(n as u32)
     }
-    Ok(n as u32)
 }
 
 /// The divisor for a rate: the d from 1 to 65,535 with 16 × (p + 1) × rate × d = frequency.
@@ -117,7 +112,12 @@ pub fn calc_divisor(
       | Err e ↦ NoDivisor frequency baud_rate prescaler_division_factor (divisor_refusal e)
     ] }
 {
-    let divisor = quotient(frequency, baud_rate, prescaler_division_factor)?;
+    let formula = Formula {
+        frequency,
+        factor: baud_rate,
+        prescaler_division_factor,
+    };
+    let divisor = formula.quotient()?;
     if divisor > MAX_DIVISOR {
         return Err(InvalidDivisorError::OutOfRange { divisor });
     }
@@ -137,7 +137,12 @@ pub fn calc_baud_rate(
       | Err e ↦ NoRate frequency divisor prescaler_division_factor (baud_refusal e)
     ] }
 {
-    let rate = quotient(frequency, divisor, prescaler_division_factor)?;
+    let formula = Formula {
+        frequency,
+        factor: divisor,
+        prescaler_division_factor,
+    };
+    let rate = formula.quotient()?;
     Ok(rate)
 }
 

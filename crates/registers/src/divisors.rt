@@ -1,14 +1,10 @@
 //! The divisors that give an integer rate at the usual clock.
 
-ghost use Rattle.std.specs.Prelude.{◌≡◌, ℕ, nat_eq};
+ghost use Rattle.std.specs.Prelude.{◌≡◌, ℕ};
 ghost use Rattle.registers.specs.Divisors.{divisor_value, DividesClock, Listed};
-ghost use Rattle.std.specs.Cmp.Rules.{comparing};
-ghost use Rattle.std.specs.Ordering.{on};
-ghost use Rattle.std.proofs.Common.{rules};
-ghost use Rattle.std.specs.Cmp as Keys;
 
 /// The divisors from 1 to 65,535 of 115,200, which is the usual clock over 16.
-#[derive(Clone, Copy, Debug)]
+#[derive(Clone, Copy, Debug, PartialEq, Eq)]
 pub enum Divisor {
     Divisor1 = 1,
     Divisor2 = 2,
@@ -101,11 +97,13 @@ pub enum Divisor {
     Divisor57600 = 57600,
 }
 
-/// The number in a divisor's name.
-fn number(divisor: Divisor) -> u16
-    ensures { result ≡ divisor_value divisor }
-{
-    divisor as u16
+impl From<Divisor> for u16 {
+    ghost from_gives = { λ d n. n ≡ divisor_value d };
+
+    /// The number in the divisor's name.
+    fn from(divisor: Divisor) -> u16 {
+        divisor as u16
+    }
 }
 
 impl Divisor {
@@ -116,20 +114,6 @@ impl Divisor {
         ensures divides { DividesClock result }
         ensures complete { (d : ℕ) → DividesClock d → Listed d }
     {
-        number(self)
+        u16::from(self)
     }
-}
-
-impl PartialEq for Divisor {
-    ghost eq = { on divisor_value nat_eq };
-
-    ghost laws = { Keys.partial_equiv_from_equiv (Prim.search (comparing, rules)) };
-
-    fn eq(&self, other: &Self) -> bool {
-        number(*self) == number(*other)
-    }
-}
-
-impl Eq for Divisor {
-    ghost laws = { Prim.search (comparing, rules) };
 }

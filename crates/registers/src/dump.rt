@@ -38,7 +38,7 @@ impl ConfigRegisterDump {
     pub fn divisor(&self) -> u16
         ensures { result ≡ latched self.now }
     {
-        u16::from(self.dlm) * 256 + u16::from(self.dll)
+        u16::from_be_bytes([self.dlm, self.dll])
     }
 
     /// The rate of that divisor at the configuration's clock and prescaler.
@@ -55,6 +55,6 @@ impl ConfigRegisterDump {
             u32::from(self.divisor()),
             config.prescaler_division_factor,
         )?;
-        Ok(BaudRate::from_integer(rate))
+        Ok(BaudRate::from(rate))
     }
 }

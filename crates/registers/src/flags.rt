@@ -4,6 +4,7 @@ ghost use Rattle.registers.specs.Flags.{contains as has, meets};
 ghost use Rattle.std.specs.Prelude.{◌≡◌};
 
 /// Whether all bits of the mask are set in the byte.
+#[tactic(auto, unfolding(crate::specs::Flags::contains))]
 pub fn contains(byte: u8, mask: u8) -> bool
     ensures { result ≡ has byte mask }
 {
@@ -11,6 +12,7 @@ pub fn contains(byte: u8, mask: u8) -> bool
 }
 
 /// Whether some bit of the mask is set in the byte.
+#[tactic(auto, unfolding(crate::specs::Flags::meets))]
 pub fn intersects(byte: u8, mask: u8) -> bool
     ensures { result ≡ meets byte mask }
 {

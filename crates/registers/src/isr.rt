@@ -57,6 +57,7 @@ impl InterruptType {
         }
     }
 
+    // Not `TryFrom`: that no interrupt is pending is no error.
     /// The interrupt that an interrupt status byte shows, if one is pending.
     pub fn from_bits(isr_bits: u8) -> Option<Self>
         ensures { Decoded isr_bits result }

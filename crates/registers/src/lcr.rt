@@ -91,6 +91,15 @@ impl WordLength {
     }
 }
 
+impl From<WordLength> for u32 {
+    ghost from_gives = { λ w n. n ≡ word_bits w };
+
+    /// How many bits a word has.
+    fn from(length: WordLength) -> u32 {
+        length.to_integer()
+    }
+}
+
 impl Coded for WordLength {
     const FIELD: Field = Field { place: 0, width: 2 };
 

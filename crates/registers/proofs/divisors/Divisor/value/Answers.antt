@@ -5,7 +5,7 @@ use Rattle.registers.proofs.divisors.Divisor.value.Goals as goal
 
 pub returns : goal.returns
 returns c = record {
-  value = c.number.ensures;
-  divides = subst (λ n. DividesClock n) (sym c.number.ensures) (name_divides c.args.self);
+  value = c.from.ensures;
+  divides = subst (λ n. DividesClock n) (sym c.from.ensures) (name_divides c.args.self);
   complete = all_listed;
 }

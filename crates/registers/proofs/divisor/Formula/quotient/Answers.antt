@@ -2,7 +2,7 @@ use Rattle.std.proofs.Common.{◌≡◌, ℕ, ◌+◌, ◌*◌, ◌/◌, ◌<◌
 use native.Mathlib.Nat.{div-eq_of_eq-mul_right}
 use Rattle.registers.specs.Divisor.{prescaled, NoQuotient, zero_frequency, zero_rate, large_prescaler, no_integer}
 use Rattle.registers.specs.Rate as rate
-use Rattle.registers.proofs.divisor.quotient.Goals as goal
+use Rattle.registers.proofs.divisor.Formula.quotient.Goals as goal
 
 -- a solution is the quotient, so the quotient solves it too
 exact : (unit f : ℕ) → 0 < unit → (q : ℕ) → unit * q ≡ f → f / unit * unit ≡ f
@@ -20,9 +20,12 @@ returns-then-prescaler-gt15 c =
 
 pub returns-then-n-unit : goal.returns-then-n-unit
 returns-then-n-unit c =
-    let none : NoQuotient c.args.frequency c.args.factor (prescaled c.args.prescaler_division_factor) = λ q e.
-    let pos : 0 < 16 * (prescaled c.args.prescaler_division_factor + 1) * c.args.factor = mul-pos (omega arith) (omega arith) in
-    c.if-n-unit.true (simp (c.from.ensures, c.from-2.ensures, c.from-3.ensures, c.from-4.ensures, c.unwrap_or-prescaler.ensures) (exact _ _ pos q e)) in (
+    let f = c.args.self in
+    let none : NoQuotient f.frequency f.factor (prescaled f.prescaler_division_factor) = λ q e.
+    let pos : 0 < 16 * (prescaled f.prescaler_division_factor + 1) * f.factor = mul-pos (omega arith) (omega arith) in
+    let solved : c.from-3.result / (16 * (c.from.result + 1) * c.from-2.result) * (16 * (c.from.result + 1) * c.from-2.result) ≡ c.from-4.result =
+    simp (c.from.ensures, c.from-2.ensures, c.from-3.ensures, c.from-4.ensures, c.unwrap_or-prescaler.ensures) (exact _ _ pos q e) in
+    omega arith in (
       no_integer (omega arith) (omega arith) (omega arith) none,
-      rate.no_integer (omega arith) (omega arith) (omega arith) (λ r e. none r (mul_right_comm _ c.args.factor r ∙ e)),
+      rate.no_integer (omega arith) (omega arith) (omega arith) (λ r e. none r (mul_right_comm _ f.factor r ∙ e)),
     )
