@@ -1,5 +1,5 @@
 -- The list of divisors, held against the divisors of 115,200 by one computed test.
-use Rattle.std.proofs.Common.{◌≡◌, ℕ, zero, suc, ◌*◌, ◌/◌, ◌%◌, ◌<◌, Bool, true, false, cond, ◌&&◌, ◌||◌, eqb, ltb, leb, List, [], ◌∷◌, sym, refl, ap, ◌∙◌, subst, ⊎_elim, mul_comm, arith}
+use Rattle.std.proofs.Common.{◌≡◌, ℕ, zero, suc, ◌*◌, ◌/◌, ◌%◌, ◌<◌, Bool, true, false, cond, ◌&&◌, ◌||◌, eqb, ltb, leb, List, [], ◌∷◌, sym, refl, ap, ◌∙◌, subst, ⊎_elim, mul_comm, arith, rules}
 use native.Mathlib.Nat.{div-eq_of_eq-mul_right}
 use Rattle.std.proofs.lemmas.Nat.{div-add-mod', mul-le}
 use Rattle.std.proofs.lemmas.Bool.{and_parts, or_cases, cond-true, cases_eq, cases_lt, eqb-true, eq-eqb, leb-true, ltb-true}
@@ -83,95 +83,7 @@ right n = eqb (115200 % n) 0 && (leb 1 n && leb n 65535)
 
 name_right : (x : Divisor) → right (divisor_value x) ≡ true
 unfolding right
-name_right Divisor1 = refl
-name_right Divisor2 = refl
-name_right Divisor3 = refl
-name_right Divisor4 = refl
-name_right Divisor5 = refl
-name_right Divisor6 = refl
-name_right Divisor8 = refl
-name_right Divisor9 = refl
-name_right Divisor10 = refl
-name_right Divisor12 = refl
-name_right Divisor15 = refl
-name_right Divisor16 = refl
-name_right Divisor18 = refl
-name_right Divisor20 = refl
-name_right Divisor24 = refl
-name_right Divisor25 = refl
-name_right Divisor30 = refl
-name_right Divisor32 = refl
-name_right Divisor36 = refl
-name_right Divisor40 = refl
-name_right Divisor45 = refl
-name_right Divisor48 = refl
-name_right Divisor50 = refl
-name_right Divisor60 = refl
-name_right Divisor64 = refl
-name_right Divisor72 = refl
-name_right Divisor75 = refl
-name_right Divisor80 = refl
-name_right Divisor90 = refl
-name_right Divisor96 = refl
-name_right Divisor100 = refl
-name_right Divisor120 = refl
-name_right Divisor128 = refl
-name_right Divisor144 = refl
-name_right Divisor150 = refl
-name_right Divisor160 = refl
-name_right Divisor180 = refl
-name_right Divisor192 = refl
-name_right Divisor200 = refl
-name_right Divisor225 = refl
-name_right Divisor240 = refl
-name_right Divisor256 = refl
-name_right Divisor288 = refl
-name_right Divisor300 = refl
-name_right Divisor320 = refl
-name_right Divisor360 = refl
-name_right Divisor384 = refl
-name_right Divisor400 = refl
-name_right Divisor450 = refl
-name_right Divisor480 = refl
-name_right Divisor512 = refl
-name_right Divisor576 = refl
-name_right Divisor600 = refl
-name_right Divisor640 = refl
-name_right Divisor720 = refl
-name_right Divisor768 = refl
-name_right Divisor800 = refl
-name_right Divisor900 = refl
-name_right Divisor960 = refl
-name_right Divisor1152 = refl
-name_right Divisor1200 = refl
-name_right Divisor1280 = refl
-name_right Divisor1440 = refl
-name_right Divisor1536 = refl
-name_right Divisor1600 = refl
-name_right Divisor1800 = refl
-name_right Divisor1920 = refl
-name_right Divisor2304 = refl
-name_right Divisor2400 = refl
-name_right Divisor2560 = refl
-name_right Divisor2880 = refl
-name_right Divisor3200 = refl
-name_right Divisor3600 = refl
-name_right Divisor3840 = refl
-name_right Divisor4608 = refl
-name_right Divisor4800 = refl
-name_right Divisor5760 = refl
-name_right Divisor6400 = refl
-name_right Divisor7200 = refl
-name_right Divisor7680 = refl
-name_right Divisor9600 = refl
-name_right Divisor11520 = refl
-name_right Divisor12800 = refl
-name_right Divisor14400 = refl
-name_right Divisor19200 = refl
-name_right Divisor23040 = refl
-name_right Divisor28800 = refl
-name_right Divisor38400 = refl
-name_right Divisor57600 = refl
+name_right x = search rules
 
 right_divides : (n : ℕ) → right n ≡ true → DividesClock n
 unfolding right
