@@ -24,3 +24,7 @@ added s t = record {
   received = joined s.received t.received;
   lost = plus s.lost t.lost;
 }
+
+-- the totals of no chip
+abbrev pub none : Totals
+none = record { chips = 0; sent = 0; left = record { count = 0; sum = 0 }; received = record { count = 0; sum = 0 }; lost = 0 }

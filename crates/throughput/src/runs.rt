@@ -50,10 +50,10 @@ fn started<B: Backend + Drop>(chip: B) -> anyhow::Result<Uart16550<B>> {
 
 /// Sends the message, sixteen bytes to a call, and answers how many bytes were taken.
 fn send<B: Backend>(uart: &mut Uart16550<B>, bytes: &[u8]) -> u64 {
-    let mut sent: u64 = 0;
-    for part in bytes.chunks(FIFO_SIZE) {
-        sent = sent.wrapping_add(uart.send_bytes(part) as u64);
-    }
+    let sent = bytes
+        .chunks(FIFO_SIZE)
+        .map(|part| uart.send_bytes(part) as u64)
+        .fold(0, u64::wrapping_add);
     // one access more, on which the last byte leaves
     let _ = uart.lsr();
     sent

@@ -1,7 +1,7 @@
 //! The totals, and how they are printed.
 
-ghost use Rattle.throughput.specs.Sums.{added};
-ghost use Rattle.std.specs.Prelude.{◌≡◌};
+ghost use Rattle.throughput.specs.Sums.{added, none};
+ghost use Rattle.std.specs.Prelude.{◌≡◌, fold};
 
 use crate::checksum::Checksum;
 use std::fmt;
@@ -49,6 +49,8 @@ impl AddAssign for Totals {
 
 /// Those of all items.
 impl Sum<Totals> for Totals {
+    ghost sum_gives = { λ ts r. r ≡ fold added none ts };
+
     fn sum<I: Iterator<Item = Totals>>(iter: I) -> Totals {
         let mut totals = Totals::NONE;
         for more in iter {
