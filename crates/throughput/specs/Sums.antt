@@ -1,5 +1,5 @@
 -- How checksums and totals grow. All numbers have 64 bits.
-use Rattle.std.specs.Prelude.{ℕ, ◌+◌, ◌*◌, ◌%◌, ◌^◌}
+use Rattle.std.specs.Prelude.{ℕ, ◌+◌, ◌*◌, ◌%◌, ◌^◌, List, fold}
 use Rattle.throughput.specs.declared.checksum.Checksum.{Checksum}
 use Rattle.throughput.specs.declared.totals.Totals.{Totals}
 
@@ -10,6 +10,14 @@ plus a b = (a + b) % 2 ^ 64
 -- one byte more: it counts as often as its place says
 abbrev pub with_byte : ℕ → Checksum → Checksum
 with_byte b s = record { count = plus s.count 1; sum = plus s.sum ((plus s.count 1 * b) % 2 ^ 64) }
+
+-- these bytes more, in their order
+abbrev pub with_bytes : List ℕ → Checksum → Checksum
+with_bytes bs s = fold (λ t b. with_byte b t) s bs
+
+-- the checksum of no bytes
+abbrev pub blank : Checksum
+blank = record { count = 0; sum = 0 }
 
 -- two checksums together
 abbrev pub joined : Checksum → Checksum → Checksum
@@ -27,4 +35,4 @@ added s t = record {
 
 -- the totals of no chip
 abbrev pub none : Totals
-none = record { chips = 0; sent = 0; left = record { count = 0; sum = 0 }; received = record { count = 0; sum = 0 }; lost = 0 }
+none = record { chips = 0; sent = 0; left = blank; received = blank; lost = 0 }

@@ -1,6 +1,6 @@
 //! A checksum that sees which bytes there were, how many, and in what order.
 
-ghost use Rattle.throughput.specs.Sums.{joined, with_byte};
+ghost use Rattle.throughput.specs.Sums.{blank, joined, with_byte, with_bytes};
 ghost use Rattle.std.specs.Prelude.{◌≡◌};
 
 use std::ops::AddAssign;
@@ -17,27 +17,28 @@ impl Checksum {
     pub const NONE: Checksum = Checksum { count: 0, sum: 0 };
 
     /// One byte more.
-    fn put(&mut self, byte: u8)
-        ensures { self.new ≡ with_byte byte self.old }
+    fn with(self, byte: u8) -> Checksum
+        ensures { result ≡ with_byte byte self }
     {
-        self.count = self.count.wrapping_add(1);
-        self.sum = self
-            .sum
-            .wrapping_add(self.count.wrapping_mul(u64::from(byte)));
-    }
-
-    /// These bytes more.
-    pub fn put_all(&mut self, bytes: &[u8]) {
-        for byte in bytes {
-            self.put(*byte);
+        let count = self.count.wrapping_add(1);
+        Checksum {
+            count,
+            sum: self.sum.wrapping_add(count.wrapping_mul(u64::from(byte))),
         }
     }
 
+    /// These bytes more.
+    pub fn with_all(self, bytes: &[u8]) -> Checksum
+        ensures { result ≡ with_bytes bytes.now self }
+    {
+        bytes.iter().fold(self, |sum, byte| sum.with(*byte))
+    }
+
     /// The checksum of these bytes alone.
-    pub fn of(bytes: &[u8]) -> Checksum {
-        let mut checksum = Checksum::NONE;
-        checksum.put_all(bytes);
-        checksum
+    pub fn of(bytes: &[u8]) -> Checksum
+        ensures { result ≡ with_bytes bytes.now blank }
+    {
+        Checksum::NONE.with_all(bytes)
     }
 }
 

@@ -63,7 +63,7 @@ fn send<B: Backend>(uart: &mut Uart16550<B>, bytes: &[u8]) -> u64 {
 fn take<B: Backend>(uart: &mut Uart16550<B>, received: &mut Checksum) {
     let mut buffer = [0; FIFO_SIZE];
     let n = uart.receive_bytes(&mut buffer);
-    received.put_all(&buffer[..n]);
+    *received = received.with_all(&buffer[..n]);
 }
 
 /// Receives as many characters as the message has, at most sixteen to a call.
