@@ -5,21 +5,26 @@ use bench::{Bench, BenchOptions, ModemLines, TapeEntry};
 use ledger::{Answer, Call, Entry};
 use std::alloc::{AllocError, Global};
 
-/// A character without a stop bit error or a break, `gap` accesses after the one before it.
-fn entry(byte: u8, parity: bool, gap: u8) -> TapeEntry {
+/// The character of this number. The first comes on the first access after the 22 of `init`, those
+/// up to the twentieth at once with it, and the last thirty accesses later. The third has a wrong
+/// parity bit.
+fn entry(byte: u8) -> TapeEntry {
     TapeEntry {
         character: Character {
             byte,
-            parity,
+            parity: byte == 3,
             framing: false,
             broken: false,
         },
-        gap,
+        gap: match byte {
+            1 => 23,
+            21 => 30,
+            _ => 0,
+        },
     }
 }
 
-/// A chip with FIFOs. Twenty characters come at once, on the first access after the 22 of `init`:
-/// sixteen find room. The third has a wrong parity bit. One more comes thirty accesses later.
+/// A chip with FIFOs: of the first twenty characters sixteen find room.
 pub fn chip(heap: Global) -> Result<Bench, AllocError> {
     let lines = ModemLines {
         clear_to_send: true,
@@ -33,12 +38,7 @@ pub fn chip(heap: Global) -> Result<Bench, AllocError> {
         pace: 1,
         lines,
     };
-    let mut tape = Vec::new(heap);
-    tape.push(entry(1, false, 23))?;
-    for byte in 2..=20 {
-        tape.push(entry(byte, byte == 3, 0))?;
-    }
-    tape.push(entry(21, false, 30))?;
+    let tape = (1..=21).map(entry).collect(heap)?;
     Ok(Bench::new(options, tape, vec![in heap; 0; 16]?))
 }
 
