@@ -17,7 +17,7 @@ impl Report<'_> {
         self.list
             .iter()
             .filter_map(|entry| match (&entry.call, &entry.answer) {
-                (Call::Receive(_), Answer::Count(n)) => Some(*n),
+                (Call::Receive(_), Some(Answer::Count(n))) => Some(*n),
                 _ => None,
             })
             .fold(0, usize::saturating_add)
@@ -49,11 +49,11 @@ struct Told<'a>(&'a Entry);
 impl fmt::Display for Told<'_> {
     fn fmt<W: fmt::Write>(&self, f: &mut fmt::Formatter<W>) -> fmt::Result {
         match (&self.0.call, &self.0.answer) {
-            (_, Answer::Register(value)) => writeln!(f, "lsr: {value:02X}"),
-            (Call::Receive(buffer), Answer::Count(n)) => {
+            (_, Some(Answer::Register(value))) => writeln!(f, "lsr: {value:02X}"),
+            (Call::Receive(buffer), Some(Answer::Count(n))) => {
                 writeln!(f, "received {n}:{}", Bytes(first(buffer, *n)))
             }
-            (Call::Send(buffer), Answer::Count(n)) => {
+            (Call::Send(buffer), Some(Answer::Count(n))) => {
                 writeln!(f, "sent {n}:{}", Bytes(first(buffer, *n)))
             }
             _ => Ok(()),

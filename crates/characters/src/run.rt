@@ -2,7 +2,7 @@
 
 use backends::Character;
 use bench::{Bench, BenchOptions, ModemLines, TapeEntry};
-use ledger::{Answer, Call, Entry};
+use ledger::{Call, Entry};
 use std::alloc::{AllocError, Global};
 
 /// The character of this number. The first comes on the first access after the 22 of `init`, those
@@ -44,10 +44,7 @@ pub fn chip(heap: Global) -> Result<Bench, AllocError> {
 
 /// A call that was not made yet.
 fn to_make(list: &mut Vec<Entry>, call: Call) -> Result<(), AllocError> {
-    list.push(Entry {
-        call,
-        answer: Answer::Nothing,
-    })?;
+    list.push(Entry { call, answer: None })?;
     Ok(())
 }
 

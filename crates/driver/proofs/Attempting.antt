@@ -3,7 +3,8 @@ use Rattle.std.proofs.Common.{◌≡◌, ℕ, zero, suc, ◌+◌, ◌-◌, ◌<�
 use Rattle.std.proofs.lemmas.List.{drop-drop, take_all}
 use Rattle.std.proofs.lemmas.Bool.{ne_eqb}
 use Rattle.backends.specs.Device.{Device}
-use Rattle.driver.specs.Kept.{Kept}
+use Rattle.driver.specs.declared.uart.Uart16550.{Uart16550}
+use Rattle.driver.specs.Kept.{Kept, kept}
 use Rattle.driver.specs.Traces.{noting}
 use Rattle.driver.specs.Sends.{Attempt, attempts, asks, writes_of, taken, line_statuses, modem_status, modem_statuses, line_status, refusals, Attempted, wrote, refused, Attempts, Made, Sent}
 use Rattle.driver.proofs.Runs.{runs_append}
@@ -35,16 +36,16 @@ pub refusals_append : (xs ys : List Attempt) → refusals (xs ++ ys) ≡ refusal
 refusals_append [] ys = sym (zero-add (refusals ys))
 refusals_append (a ∷ xs) ys = rw (refusals_append xs ys) (more_or (eqb (length a.bytes) 0) (refusals xs) (refusals ys))
 
-pub no_attempts : {S : Type 0} (d : Device S) (s : S) (k : Kept) → Made d s s k k []
-no_attempts d s k = record { ran = refl; keeps = refl }
+pub no_attempts : {S : Type 0} {d : Device S} {u : Uart16550 S} → Made d u u []
+no_attempts = record { ran = refl; keeps = refl }
 
-pub made_append : {S : Type 0} (d : Device S) (s t u : S) (k l n : Kept) (xs ys : List Attempt) → Made d s t k l xs → Made d t u l n ys → Made d s u k n (xs ++ ys)
-made_append d s t u k l n xs ys p q = record {
-  ran = rw (attempts_append xs ys) (runs_append d (attempts xs) (attempts ys) s t u p.ran q.ran);
-  keeps = q.keeps ∙ ap (λ m. noting m (line_statuses ys) (modem_statuses ys)) p.keeps
-      ∙ noting_append k (line_statuses xs) (modem_statuses xs) (line_statuses ys) (modem_statuses ys)
-      ∙ ap (λ v. noting k v (modem_statuses xs ++ modem_statuses ys)) (sym (line_append xs ys))
-      ∙ ap (λ v. noting k (line_statuses (xs ++ ys)) v) (sym (modem_append xs ys));
+pub made_append : {S : Type 0} {d : Device S} {u v w : Uart16550 S} {xs ys : List Attempt} → Made d u v xs → Made d v w ys → Made d u w (xs ++ ys)
+made_append {d = d} {u = u} {v = v} {w = w} {xs = xs} {ys = ys} p q = record {
+  ran = rw (attempts_append xs ys) (runs_append d (attempts xs) (attempts ys) u.backend v.backend w.backend p.ran q.ran);
+  keeps = q.keeps ∙ ap (λ k. noting k (line_statuses ys) (modem_statuses ys)) p.keeps
+      ∙ noting_append (kept u) (line_statuses xs) (modem_statuses xs) (line_statuses ys) (modem_statuses ys)
+      ∙ ap (λ l. noting (kept u) l (modem_statuses xs ++ modem_statuses ys)) (sym (line_append xs ys))
+      ∙ ap (λ l. noting (kept u) (line_statuses (xs ++ ys)) l) (sym (modem_append xs ys));
 }
 
 -- saved bits do not change what an attempt may do
@@ -113,26 +114,31 @@ pub rest_of : (n : ℕ) (xs : List ℕ) → take (length xs - n) (drop n xs) ≡
 rest_of n xs = take_all (length xs - n) (drop n xs) (let e = length-drop n xs in omega arith)
 
 -- one attempt more on what is left of the buffer
-module _ {S : Type 0} (d : Device S) (s t u : S) (k l n : Kept) (buffer : List ℕ) (xs : List Attempt) (moved count : ℕ)
-    (p : Made d s t k l xs) (a : Attempts k buffer xs) (m : moved ≡ length (taken xs)) (h : moved < length buffer)
-    (q : Sent d t u l n (drop moved buffer) count) where
-  pub more_made : Made d s u k n (xs ++ q.tried)
-  more_made = made_append d s t u k l n xs q.tried p q.made
+module _ {S : Type 0} {d : Device S} {u v w : Uart16550 S} (buffer : List ℕ) {xs : List Attempt} (moved count : ℕ)
+    (p : Made d u v xs) (a : Attempts (kept u) buffer xs) (m : moved ≡ length (taken xs)) (h : moved < length buffer)
+    (q : Sent d v w (drop moved buffer) count) where
+  -- with it the attempts so far go on, and it was fruitless exactly where it took nothing
+  pub record OneMore : Type 0 where
+    pub made : Made d u w (xs ++ q.tried)
+    pub sound : Attempts (kept u) buffer (xs ++ q.tried)
+    pub moves : moved + count ≡ length (taken (xs ++ q.tried))
+    pub within : moved + count ≤ length buffer
+    pub one : length q.tried ≡ 1
+    pub fruitless : count ≡ 0 → refusals (xs ++ q.tried) ≡ refusals xs + 1
+    pub fruitful : (count ≡ 0 → ⊥) → refusals (xs ++ q.tried) ≡ refusals xs
 
-  pub more_sound : Attempts k buffer (xs ++ q.tried)
-  more_sound = attempts_more k l (line_statuses xs) (modem_statuses xs) buffer xs q.tried p.keeps a (subst (λ i. Attempts l (drop i buffer) q.tried) m q.sound)
-
-  pub more_taken : moved + count ≡ length (taken (xs ++ q.tried))
-  more_taken = let e = ap length (taken_append xs q.tried) in let f = length-append (taken xs) (taken q.tried) in omega (arith, q.answer)
-
-  pub more_within : moved + count ≤ length buffer
-  more_within = omega (arith, more_taken, taken_within k buffer (xs ++ q.tried) more_sound)
-
-  pub just_one : length q.tried ≡ 1
-  just_one = let e = length-drop moved buffer in omega (arith, q.one)
-
-  pub refused_more : count ≡ 0 → refusals (xs ++ q.tried) ≡ refusals xs + 1
-  refused_more z = let e : length (taken q.tried) ≡ 0 = omega (arith, q.answer) in omega (arith, refusals_append xs q.tried, one_refusal q.tried just_one e)
-
-  pub refused_same : (count ≡ 0 → ⊥) → refusals (xs ++ q.tried) ≡ refusals xs
-  refused_same z = let e : 0 < length (taken q.tried) = omega (arith, q.answer) in omega (arith, refusals_append xs q.tried, no_refusal q.tried just_one e)
+  pub one_more : OneMore
+  one_more =
+      let sound = attempts_more (kept u) (kept v) (line_statuses xs) (modem_statuses xs) buffer xs q.tried p.keeps a (subst (λ i. Attempts (kept v) (drop i buffer) q.tried) m q.sound) in
+      let t : moved + count ≡ length (taken (xs ++ q.tried)) =
+      let e = ap length (taken_append xs q.tried) in let f = length-append (taken xs) (taken q.tried) in omega (arith, q.answer) in
+      let one : length q.tried ≡ 1 = let e = length-drop moved buffer in omega (arith, q.one) in
+      record {
+        made = made_append p q.made;
+        sound = sound;
+        moves = t;
+        within = omega (arith, taken_within (kept u) buffer (xs ++ q.tried) sound);
+        one = one;
+        fruitless = λ z. let e : length (taken q.tried) ≡ 0 = omega (arith, q.answer) in omega (arith, refusals_append xs q.tried, one_refusal q.tried one e);
+        fruitful = λ z. let e : 0 < length (taken q.tried) = omega (arith, q.answer) in omega (arith, refusals_append xs q.tried, no_refusal q.tried one e);
+      }

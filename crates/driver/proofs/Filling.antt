@@ -4,7 +4,7 @@ use Rattle.std.proofs.lemmas.List.{length_push}
 use Rattle.registers.specs.declared.error.Wait.{Wait}
 use Rattle.registers.specs.Refusal.{Refusal}
 use Rattle.backends.specs.Device.{Device}
-use Rattle.driver.specs.Kept.{Kept}
+use Rattle.driver.specs.declared.uart.Uart16550.{Uart16550}
 use Rattle.driver.specs.Receives.{Try, took, missed, got, misses, filled, Made, short, Received, ReceivedOne, FillsExactly, all, cut, WaitsFor, came, late}
 use Rattle.driver.proofs.Tries.{made_append, got_append, misses_append, filled_more}
 
@@ -15,25 +15,25 @@ got_miss ts v = got_append ts (missed v ∷ []) ∙ append-nil (got ts)
 got_took : (ts : List Try) (v b : ℕ) → got (ts ++ (took v b ∷ [])) ≡ got ts ++ (b ∷ [])
 got_took ts v b = got_append ts (took v b ∷ [])
 
-module _ {S : Type 0} (d : Device S) (s t : S) (k l : Kept) (before buffer : List ℕ) (ts : List Try) (i : ℕ)
-    (m : Made d s t k l ts) (n : length (got ts) ≡ i) (f : buffer ≡ filled (got ts) before) where
+module _ {S : Type 0} {d : Device S} {u v : Uart16550 S} {before buffer : List ℕ} {ts : List Try} (i : ℕ)
+    (m : Made d u v ts) (n : length (got ts) ≡ i) (f : buffer ≡ filled (got ts) before) where
   -- the next place gets a character
-  pub fill_more : (u : S) (l' : Kept) (b : ℕ) (q : ReceivedOne d t u l l' (Some b)) → misses ts ≡ 0 → i < length before
-      → (us : List Try) × Made d s u k l' us × (misses us ≡ 0) × (length (got us) ≡ i + 1) × (set buffer i b ≡ filled (got us) before)
-  fill_more u l' b q z h = (
+  pub fill_more : {w : Uart16550 S} (b : ℕ) (q : ReceivedOne d v w (Some b)) → misses ts ≡ 0 → i < length before
+      → (us : List Try) × Made d u w us × (misses us ≡ 0) × (length (got us) ≡ i + 1) × (set buffer i b ≡ filled (got us) before)
+  fill_more b q z h = (
     ts ++ (took q.status b ∷ []),
-    made_append d s t u k l l' ts _ m q.made,
+    made_append m q.made,
     misses_append ts (took q.status b ∷ []) ∙ omega arith,
     ap length (got_took ts q.status b) ∙ length_push (got ts) b ∙ omega arith,
     rw (f, ← n) (filled_more (got ts) before b (omega arith) ∙ ap (λ g. filled g before) (sym (got_took ts q.status b))),
   )
 
   -- none is there: the buffer stays as it is
-  pub fill_short : (u : S) (l' : Kept) (after : List ℕ) (count : ℕ) (q : ReceivedOne d t u l l' None) → misses ts ≡ 0 → i < length before
-      → after ≡ buffer → count ≡ i → Received d s u k l' before after count
-  fill_short u l' after count q z h e c = record {
+  pub fill_short : {w : Uart16550 S} {after : List ℕ} {count : ℕ} (q : ReceivedOne d v w None) → misses ts ≡ 0 → i < length before
+      → after ≡ buffer → count ≡ i → Received d u w before after count
+  fill_short q z h e c = record {
     ts = ts ++ (missed q.status ∷ []);
-    made = made_append d s t u k l l' ts _ m q.made;
+    made = made_append m q.made;
     fills = short ts q.status z (omega arith);
     buffer = e ∙ f ∙ ap (λ g. filled g before) (sym (got_miss ts q.status));
     answer = c ∙ sym n ∙ ap length (sym (got_miss ts q.status));

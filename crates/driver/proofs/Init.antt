@@ -6,7 +6,8 @@ use Rattle.registers.specs.Config.{rate}
 use Rattle.registers.specs.Divisor.{NoDivisor}
 use Rattle.registers.specs.Refusal.{Refusal, refusal, during}
 use Rattle.backends.specs.Device.{Device, Runs, rd, wr}
-use Rattle.driver.specs.Kept.{Kept, with_config, with_fifo, with_saved}
+use Rattle.driver.specs.declared.uart.Uart16550.{Uart16550}
+use Rattle.driver.specs.Kept.{Kept, kept, with_config, with_fifo, with_saved}
 use Rattle.driver.specs.Traces.{Ran, Probe, FifoSetUp, Discarded, line_set_up, Opened, opened, DivisorFor, Cleared, polls, noting, StayedBusy, SeenEmpty, Initialised, no_divisor, absent, given_up, done}
 use Rattle.driver.proofs.Runs.{runs_append}
 
@@ -26,56 +27,61 @@ module _ {S : Type 0} (d : Device S) where
         (runs_append d (line_set_up c dv ++ q.0) r.0 s u v (runs_append d (line_set_up c dv) q.0 s t u p q.2) r.2) z,
   )
 
-  module _ (c : Config) (n : ℕ) (k : Kept) (s : S) where
+  module _ (c : Config) (n : ℕ) (u : Uart16550 S) where
     pub none : (x : Refusal) (r : ℕ) (f : ℕ) → r ≡ rate c.baud_rate → f ≡ 0 → NoDivisor c.frequency r c.prescaler_division_factor x
-        → Ran d (Initialised c n k (Some x) f k) s s
+        → Ran d (Initialised c n (kept u) (Some x) f (kept u)) u.backend u.backend
     none x r f e z h = ([], rw z (no_divisor x (rw e at h)), refl)
 
-    pub missing : (dv : ℕ) (k₁ : Kept) (f : ℕ) (t : S) → DivisorFor c dv → k₁ ≡ with_config k c → f ≡ 0 → Ran d (Probe false) s t
-        → Ran d (Initialised c n k (Some (refusal 8 [])) f k₁) s t
-    missing dv k₁ f t h e z p = (p.0, rw (e, z) (absent dv h p.0 p.1), p.2)
+    pub missing : (dv : ℕ) (v : Uart16550 S) (f : ℕ) → DivisorFor c dv → kept v ≡ with_config (kept u) c → f ≡ 0 → Ran d (Probe false) u.backend v.backend
+        → Ran d (Initialised c n (kept u) (Some (refusal 8 [])) f (kept v)) u.backend v.backend
+    missing dv v f h e z p = (
+      p.0,
+      subst (λ k. Initialised c n (kept u) (Some (refusal 8 [])) f k p.0) (sym e) (rw z (absent dv h p.0 p.1)),
+      p.2,
+    )
 
-    module _ (dv : ℕ) (h : DivisorFor c dv) (k₁ k₂ : Kept) (t u : S) (p : Ran d (Probe true) s t) (e : k₁ ≡ with_config k c)
-        (o : Ran d (Opened k₁.config dv k₂.fifo) t u) (f : k₂ ≡ with_fifo k₁ k₂.fifo) where
-      open_c : Opened c dv k₂.fifo o.0
-      open_c = subst (λ a. Opened a dv k₂.fifo o.0) (ap (λ k. k.config) e) o.1
+    module _ (dv : ℕ) (h : DivisorFor c dv) (v w : Uart16550 S) (p : Ran d (Probe true) u.backend v.backend) (e : kept v ≡ with_config (kept u) c)
+        (o : Ran d (Opened v.config dv w.fifo_enabled) v.backend w.backend) (f : kept w ≡ with_fifo (kept v) w.fifo_enabled) where
+      open_c : Opened c dv w.fifo_enabled o.0
+      open_c = subst (λ a. Opened a dv w.fifo_enabled o.0) (ap (λ k. k.config) e) o.1
 
-      now_kept : k₂ ≡ with_fifo (with_config k c) k₂.fifo
-      now_kept = f ∙ ap (λ k. with_fifo k k₂.fifo) e
+      now_kept : kept w ≡ with_fifo (with_config (kept u) c) w.fifo_enabled
+      now_kept = f ∙ ap (λ k. with_fifo k w.fifo_enabled) e
 
-      start : Runs d (p.0 ++ o.0) s u
-      start = runs_append d p.0 o.0 s t u p.2 o.2
+      start : Runs d (p.0 ++ o.0) u.backend w.backend
+      start = runs_append d p.0 o.0 u.backend v.backend w.backend p.2 o.2
 
-      pub too_long : (spent total : ℕ) (k₃ : Kept) (w : S) → spent ≡ 0 → total ≡ n + 1 → StayedBusy d u w k₂ k₃ spent total
-          → Ran d (Initialised c n k (Some (refusal 9 (during Transmitter ∷ []))) total k₃) s w
-      too_long spent total k₃ w z q b =
+      pub too_long : (x : Uart16550 S) (spent total : ℕ) → spent ≡ 0 → total ≡ n + 1 → StayedBusy d w x spent total
+          → Ran d (Initialised c n (kept u) (Some (refusal 9 (during Transmitter ∷ []))) total (kept x)) u.backend x.backend
+      too_long x spent total z q b =
           let l : length b.polled ≡ n + 1 = omega (arith, b.count) in
-          let l' : total ≡ length b.polled = omega (arith, b.count) in (
-            p.0 ++ o.0 ++ polls b.polled,
-            subst (λ m. Initialised c n k (Some (refusal 9 (during Transmitter ∷ []))) m k₃ (p.0 ++ o.0 ++ polls b.polled)) (sym l')
-                (subst (λ m. Initialised c n k (Some (refusal 9 (during Transmitter ∷ []))) (length b.polled) m (p.0 ++ o.0 ++ polls b.polled))
+          let l' : total ≡ length b.polled = omega (arith, b.count) in
+          let xs = p.0 ++ o.0 ++ polls b.polled in (
+            xs,
+            subst (λ m. Initialised c n (kept u) (Some (refusal 9 (during Transmitter ∷ []))) m (kept x) xs) (sym l')
+                (subst (λ m. Initialised c n (kept u) (Some (refusal 9 (during Transmitter ∷ []))) (length b.polled) m xs)
                 (sym (b.keeps ∙ ap (λ m. noting m b.polled []) now_kept))
-                (given_up dv h k₂.fifo p.0 o.0 p.1 open_c b.polled b.busy l)),
-            runs_append d (p.0 ++ o.0) (polls b.polled) s u w start b.ran,
+                (given_up dv h w.fifo_enabled p.0 o.0 p.1 open_c b.polled b.busy l)),
+            runs_append d (p.0 ++ o.0) (polls b.polled) u.backend w.backend x.backend start b.ran,
           )
 
-      pub in_time : (spent total : ℕ) (k₃ k₄ : Kept) (w x y : S) (ints : ℕ) → spent ≡ 0 → total ≤ n → SeenEmpty d u w k₂ k₃ spent total
-          → Ran d Cleared w x → k₄ ≡ with_saved k₃ 0 0 → ints ≡ k₄.config.interrupts → Runs d (wr 1 ints ∷ []) x y
-          → Ran d (Initialised c n k None total k₄) s y
-      in_time spent total k₃ k₄ w x y ints z q b cl e₄ e₅ wi =
+      pub in_time : (x y : Uart16550 S) (t : S) (spent total ints : ℕ) → spent ≡ 0 → total ≤ n → SeenEmpty d w x spent total
+          → Ran d Cleared x.backend y.backend → kept y ≡ with_saved (kept x) 0 0 → ints ≡ y.config.interrupts → Runs d (wr 1 ints ∷ []) y.backend t
+          → Ran d (Initialised c n (kept u) None total (kept y)) u.backend t
+      in_time x y t spent total ints z q b cl e₄ e₅ wi =
           let l : length b.polled ≤ n = omega (arith, b.count) in
           let l' : total ≡ length b.polled = omega (arith, b.count) in
           let vs = b.polled in
-          let e₆ : k₄ ≡ with_saved (with_fifo (with_config k c) k₂.fifo) 0 0 =
+          let e₆ : kept y ≡ with_saved (with_fifo (with_config (kept u) c) w.fifo_enabled) 0 0 =
           e₄ ∙ ap (λ m. with_saved m 0 0) (b.keeps ∙ ap (λ m. noting m (vs ++ (b.last ∷ [])) []) now_kept) in
           let e₇ : ints ≡ c.interrupts = e₅ ∙ ap (λ m. m.config.interrupts) e₆ in
           let zs = p.0 ++ o.0 ++ (polls vs ++ (rd 5 b.last ∷ [])) ++ cl.0 ++ (wr 1 c.interrupts ∷ []) in (
             zs,
-            subst (λ m. Initialised c n k None m k₄ zs) (sym l')
-                (subst (λ m. Initialised c n k None (length vs) m zs) (sym e₆)
-                (done dv h k₂.fifo p.0 o.0 cl.0 p.1 open_c vs b.last b.busy b.empty l cl.1)),
-            runs_append d (p.0 ++ o.0 ++ (polls vs ++ (rd 5 b.last ∷ [])) ++ cl.0) (wr 1 c.interrupts ∷ []) s x y
-                (runs_append d (p.0 ++ o.0 ++ (polls vs ++ (rd 5 b.last ∷ []))) cl.0 s w x
-                (runs_append d (p.0 ++ o.0) (polls vs ++ (rd 5 b.last ∷ [])) s u w start b.ran) cl.2)
-                (subst (λ m. Runs d (wr 1 m ∷ []) x y) e₇ wi),
+            subst (λ m. Initialised c n (kept u) None m (kept y) zs) (sym l')
+                (subst (λ m. Initialised c n (kept u) None (length vs) m zs) (sym e₆)
+                (done dv h w.fifo_enabled p.0 o.0 cl.0 p.1 open_c vs b.last b.busy b.empty l cl.1)),
+            runs_append d (p.0 ++ o.0 ++ (polls vs ++ (rd 5 b.last ∷ [])) ++ cl.0) (wr 1 c.interrupts ∷ []) u.backend y.backend t
+                (runs_append d (p.0 ++ o.0 ++ (polls vs ++ (rd 5 b.last ∷ []))) cl.0 u.backend x.backend y.backend
+                (runs_append d (p.0 ++ o.0) (polls vs ++ (rd 5 b.last ∷ [])) u.backend w.backend x.backend start b.ran) cl.2)
+                (subst (λ m. Runs d (wr 1 m ∷ []) y.backend t) e₇ wi),
           )

@@ -6,7 +6,8 @@ use Rattle.registers.specs.declared.error.Wait.{Wait}
 use Rattle.registers.specs.declared.error.Wait.TheVariants.{TestByte, TestMessageSent, TestMessageReceived}
 use Rattle.registers.specs.Refusal.{Refusal, refusal, amount}
 use Rattle.backends.specs.Device.{Device, Runs}
-use Rattle.driver.specs.Kept.{Kept}
+use Rattle.driver.specs.declared.uart.Uart16550.{Uart16550}
+use Rattle.driver.specs.Kept.{Kept, kept}
 use Rattle.driver.specs.Traces.{noting}
 use Rattle.driver.specs.Receives.{WaitsFor, came, Try, took, missed, tries, statuses, got, misses, filled, FillsExactly, no_room, all as filled_all, cut as filled_cut, ReceivedExactly, Made as Tried}
 use Rattle.driver.specs.Sends.{Sent, taken, Attempt, attempts, line_statuses, modem_statuses, refusals, Attempted, wrote, refused, Attempts, SendsExactly, all, cut, SentExactly, Made}
@@ -51,72 +52,70 @@ back_append (sent xs ∷ ps) qs = back_append ps qs
 back_append (heard ts ∷ ps) qs = rw (back_append ps qs) (sym (append_assoc (got ts) (back ps) (back qs)))
 
 -- these parts were done
-pub record Moved {S : Type 0} (d : Device S) (s t : S) (k l : Kept) (ps : List Part) : Type 0 where
-  pub ran : Runs d (accesses ps) s t
-  pub keeps : l ≡ noting k (lines_of ps) (modems_of ps)
+pub record Moved {S : Type 0} (d : Device S) (old new : Uart16550 S) (ps : List Part) : Type 0 where
+  pub ran : Runs d (accesses ps) old.backend new.backend
+  pub keeps : kept new ≡ noting (kept old) (lines_of ps) (modems_of ps)
 
-module _ {S : Type 0} (d : Device S) where
-  pub moved_none : (s : S) (k : Kept) → Moved d s s k k []
-  moved_none s k = record { ran = refl; keeps = refl }
+pub moved_none : {S : Type 0} {d : Device S} {u : Uart16550 S} → Moved d u u []
+moved_none = record { ran = refl; keeps = refl }
 
-  pub moved_append : (s t u : S) (k l m : Kept) (ps qs : List Part) → Moved d s t k l ps → Moved d t u l m qs → Moved d s u k m (ps ++ qs)
-  moved_append s t u k l m ps qs p q = record {
-    ran = subst (λ xs. Runs d xs s u) (sym (accesses_append ps qs)) (runs_append d (accesses ps) (accesses qs) s t u p.ran q.ran);
-    keeps = q.keeps ∙ ap (λ j. noting j (lines_of qs) (modems_of qs)) p.keeps ∙ noting_append k (lines_of ps) (modems_of ps) (lines_of qs) (modems_of qs)
-        ∙ ap (λ v. noting k v (modems_of ps ++ modems_of qs)) (sym (lines_append ps qs))
-        ∙ ap (λ v. noting k (lines_of (ps ++ qs)) v) (sym (modems_append ps qs));
+pub moved_append : {S : Type 0} {d : Device S} {u v w : Uart16550 S} {ps qs : List Part} → Moved d u v ps → Moved d v w qs → Moved d u w (ps ++ qs)
+moved_append {d = d} {u = u} {v = v} {w = w} {ps = ps} {qs = qs} p q = record {
+  ran = subst (λ xs. Runs d xs u.backend w.backend) (sym (accesses_append ps qs)) (runs_append d (accesses ps) (accesses qs) u.backend v.backend w.backend p.ran q.ran);
+  keeps = q.keeps ∙ ap (λ j. noting j (lines_of qs) (modems_of qs)) p.keeps ∙ noting_append (kept u) (lines_of ps) (modems_of ps) (lines_of qs) (modems_of qs)
+      ∙ ap (λ l. noting (kept u) l (modems_of ps ++ modems_of qs)) (sym (lines_append ps qs))
+      ∙ ap (λ l. noting (kept u) (lines_of (ps ++ qs)) l) (sym (modems_append ps qs));
+}
+
+module _ {S : Type 0} {d : Device S} {u v : Uart16550 S} where
+  -- one part
+  pub one_heard : {ts : List Try} → Tried d u v ts → Moved d u v (heard ts ∷ [])
+  one_heard {ts = ts} m = record {
+    ran = subst (λ xs. Runs d xs u.backend v.backend) (sym (append-nil (tries ts))) m.ran;
+    keeps = m.keeps ∙ ap (λ l. noting (kept u) l []) (sym (append-nil (statuses ts)));
   }
 
-  module _ (s t : S) (k l : Kept) where
-    -- one part
-    pub one_heard : (ts : List Try) → Tried d s t k l ts → Moved d s t k l (heard ts ∷ [])
-    one_heard ts m = record {
-      ran = subst (λ xs. Runs d xs s t) (sym (append-nil (tries ts))) m.ran;
-      keeps = m.keeps ∙ ap (λ v. noting k v []) (sym (append-nil (statuses ts)));
-    }
+  pub one_drained : {ts : List Try} → Tried d u v ts → Moved d u v (drained ts ∷ [])
+  one_drained {ts = ts} m = record {
+    ran = subst (λ xs. Runs d xs u.backend v.backend) (sym (append-nil (tries ts))) m.ran;
+    keeps = m.keeps ∙ ap (λ l. noting (kept u) l []) (sym (append-nil (statuses ts)));
+  }
 
-    pub one_drained : (ts : List Try) → Tried d s t k l ts → Moved d s t k l (drained ts ∷ [])
-    one_drained ts m = record {
-      ran = subst (λ xs. Runs d xs s t) (sym (append-nil (tries ts))) m.ran;
-      keeps = m.keeps ∙ ap (λ v. noting k v []) (sym (append-nil (statuses ts)));
-    }
+  pub one_sent : {xs : List Attempt} → Made d u v xs → Moved d u v (sent xs ∷ [])
+  one_sent {xs = xs} m = record {
+    ran = subst (λ ys. Runs d ys u.backend v.backend) (sym (append-nil (attempts xs))) m.ran;
+    keeps = m.keeps ∙ ap (λ l. noting (kept u) l (modem_statuses xs)) (sym (append-nil (line_statuses xs)))
+        ∙ ap (λ l. noting (kept u) (line_statuses xs ++ []) l) (sym (append-nil (modem_statuses xs)));
+  }
 
-    pub one_sent : (xs : List Attempt) → Made d s t k l xs → Moved d s t k l (sent xs ∷ [])
-    one_sent xs m = record {
-      ran = subst (λ ys. Runs d ys s t) (sym (append-nil (attempts xs))) m.ran;
-      keeps = m.keeps ∙ ap (λ v. noting k v (modem_statuses xs)) (sym (append-nil (line_statuses xs)))
-          ∙ ap (λ v. noting k (line_statuses xs ++ []) v) (sym (append-nil (modem_statuses xs)));
-    }
+  pub one_offered : (a : Attempt) → Made d u v (a ∷ []) → Moved d u v (offered a ∷ [])
+  one_offered a m = record {
+    ran = subst (λ xs. Runs d xs u.backend v.backend) (sym (append-nil (attempts (a ∷ [])))) m.ran;
+    keeps = m.keeps ∙ ap (λ l. noting (kept u) l (modem_statuses (a ∷ []))) (sym (append-nil (line_statuses (a ∷ []))))
+        ∙ ap (λ l. noting (kept u) (line_statuses (a ∷ []) ++ []) l) (sym (append-nil (modem_statuses (a ∷ []))));
+  }
 
-    pub one_offered : (a : Attempt) → Made d s t k l (a ∷ []) → Moved d s t k l (offered a ∷ [])
-    one_offered a m = record {
-      ran = subst (λ xs. Runs d xs s t) (sym (append-nil (attempts (a ∷ [])))) m.ran;
-      keeps = m.keeps ∙ ap (λ v. noting k v (modem_statuses (a ∷ []))) (sym (append-nil (line_statuses (a ∷ []))))
-          ∙ ap (λ v. noting k (line_statuses (a ∷ []) ++ []) v) (sym (append-nil (modem_statuses (a ∷ []))));
-    }
+  pub done : {P : List Part → Type 0} {a b : ℕ} {ps : List Part} → Moved d u v ps → P ps → b ≡ a + wasted ps → Done d u v P a b
+  done {ps = ps} m h e = record { parts = ps; holds = h; ran = m.ran; keeps = m.keeps; counted = e }
 
-    pub done : (ps : List Part) (P : List Part → Type 0) (a b : ℕ) → Moved d s t k l ps → P ps → b ≡ a + wasted ps → Done d s t k l P a b
-    done ps P a b m h e = record { parts = ps; holds = h; ran = m.ran; keeps = m.keeps; counted = e }
-
-    pub moved : (P : List Part → Type 0) (a b : ℕ) (p : Done d s t k l P a b) → Moved d s t k l p.parts
-    moved P a b p = record { ran = p.ran; keeps = p.keeps }
-
-  -- one step, and then another with what is left of the budget
-  pub done_then : (s t u : S) (k l m : Kept) (P : List Part → Type 0) (Q : Kept → ℕ → List Part → Type 0) (R : List Part → Type 0) (n n' a b c : ℕ)
-      → Done d s t k l P a b → Done d t u l m (Q (settings l) (n' - b)) b c → n' ≡ n
-      → ((ps qs : List Part) → P ps → Q (settings k) (n - a - wasted ps) qs → R (ps ++ qs)) → Done d s u k m R a c
-  done_then s t u k l m P Q R n n' a b c p q e f =
-      let i : n' - b ≡ n - a - wasted p.parts = omega (arith, p.counted) in
-      let w = wasted_append p.parts q.parts in
-      done s u k m (p.parts ++ q.parts) R a c
-      (moved_append s t u k l m p.parts q.parts (moved s t k l P a b p) (moved t u l m (Q (settings l) (n' - b)) b c q))
-      (f p.parts q.parts p.holds
-      (subst (λ h. Q (settings k) h q.parts) i (subst (λ j. Q j (n' - b) q.parts) (ap settings p.keeps) q.holds)))
-      (omega (arith, p.counted, q.counted))
+  pub moved : {P : List Part → Type 0} {a b : ℕ} (p : Done d u v P a b) → Moved d u v p.parts
+  moved p = record { ran = p.ran; keeps = p.keeps }
 
   -- a step whose parts have another property too
-  pub done_as : (s t : S) (k l : Kept) (P R : List Part → Type 0) (a b : ℕ) → Done d s t k l P a b → ((ps : List Part) → P ps → R ps) → Done d s t k l R a b
-  done_as s t k l P R a b p f = done s t k l p.parts R a b (moved s t k l P a b p) (f p.parts p.holds) p.counted
+  pub done_as : {P R : List Part → Type 0} {a b : ℕ} → Done d u v P a b → ((ps : List Part) → P ps → R ps) → Done d u v R a b
+  done_as p f = done (moved p) (f p.parts p.holds) p.counted
+
+-- one step, and then another with what is left of the budget
+pub done_then : {S : Type 0} {d : Device S} {u v w : Uart16550 S} {P : List Part → Type 0} (Q : Kept → ℕ → List Part → Type 0) {R : List Part → Type 0} {n n' a b c : ℕ}
+    → Done d u v P a b → Done d v w (Q (settings (kept v)) (n' - b)) b c → n' ≡ n
+    → ((ps qs : List Part) → P ps → Q (settings (kept u)) (n - a - wasted ps) qs → R (ps ++ qs)) → Done d u w R a c
+done_then {u = u} {v = v} {P = P} Q {R = R} {n = n} {n' = n'} {a = a} {b = b} {c = c} p q e f =
+    let i : n' - b ≡ n - a - wasted p.parts = omega (arith, p.counted) in
+    let w = wasted_append p.parts q.parts in
+    done (moved_append (moved p) (moved q))
+    (f p.parts q.parts p.holds
+    (subst (λ h. Q (settings (kept u)) h q.parts) i (subst (λ j. Q j (n' - b) q.parts) (ap settings p.keeps) q.holds)))
+    (omega (arith, p.counted, q.counted))
 
 -- saved bits do not change what an attempt may do
 pub one_settings : (k : Kept) (buffer : List ℕ) (a : Attempt) → Attempted k buffer a → Attempted (settings k) buffer a
@@ -162,21 +161,20 @@ whole : (x : Option Refusal) (room n : ℕ) (w : Wait) (ts : List Try) (before a
 whole None room n w ts before after h e f z = f ∙ filled_whole (got ts) before (fills_length room n w ts h ∙ e) ∙ sym (append-nil (got ts))
 whole (Some x) room n w ts before after h e f z = not_none x z
 
-module _ {S : Type 0} (d : Device S) (s t : S) (k l : Kept) (bytes : List ℕ) (n a b i : ℕ) where
-  pub echo_cut : (x : Refusal) (after : List ℕ) → SentExactly d s t k l bytes (n - a) TestMessageSent (Some x) (b - a) i → a ≤ b
-      → Done d s t k l (λ ps. Echoed (settings k) (n - a) bytes (Some x) ps × (Some x ≡ None → after ≡ back ps)) a b
-  echo_cut x after q h = done d s t k l (sent q.tried ∷ []) _ a b (one_sent d s t k l q.tried q.made)
-      (not_sent x q.tried (attempts_settings k bytes q.tried q.sound) (sends_settings k bytes _ _ _ q.tried q.sends), λ e. not_none x e)
+module _ {S : Type 0} {d : Device S} {u v : Uart16550 S} {bytes : List ℕ} (n : ℕ) {a b i : ℕ} where
+  pub echo_cut : {x : Refusal} {after : List ℕ} → SentExactly d u v bytes (n - a) TestMessageSent (Some x) (b - a) i → a ≤ b
+      → Done d u v (λ ps. Echoed (settings (kept u)) (n - a) bytes (Some x) ps × (Some x ≡ None → after ≡ back ps)) a b
+  echo_cut {x = x} q h = done (one_sent q.made)
+      (not_sent x q.tried (attempts_settings (kept u) bytes q.tried q.sound) (sends_settings (kept u) bytes _ _ _ q.tried q.sends), λ e. not_none x e)
       (omega (arith, q.counted))
 
-  pub echo_whole : (u : S) (m : Kept) (n' c j : ℕ) (x : Option Refusal) (before after : List ℕ) → SentExactly d s t k l bytes (n - a) TestMessageSent None (b - a) i → a ≤ b
-      → ReceivedExactly d t u l m (n' - b) TestMessageReceived before after x (c - b) j → b ≤ c → n' ≡ n → length before ≡ length bytes
-      → Done d s u k m (λ ps. Echoed (settings k) (n - a) bytes x ps × (x ≡ None → after ≡ back ps)) a c
-  echo_whole u m n' c j x before after q h r g e f =
+  pub echo_whole : {w : Uart16550 S} {n' c j : ℕ} {x : Option Refusal} {before after : List ℕ} → SentExactly d u v bytes (n - a) TestMessageSent None (b - a) i → a ≤ b
+      → ReceivedExactly d v w (n' - b) TestMessageReceived before after x (c - b) j → b ≤ c → n' ≡ n → length before ≡ length bytes
+      → Done d u w (λ ps. Echoed (settings (kept u)) (n - a) bytes x ps × (x ≡ None → after ≡ back ps)) a c
+  echo_whole {n' = n'} {x = x} {before = before} {after = after} q h r g e f =
       let z : n' - b ≡ n - a - refusals q.tried = omega (arith, q.counted) in
-      done d s u k m (sent q.tried ∷ heard r.ts ∷ []) _ a c
-      (moved_append d s t u k l m (sent q.tried ∷ []) (heard r.ts ∷ []) (one_sent d s t k l q.tried q.made) (one_heard d t u l m r.ts r.made)) (
-        all_sent x q.tried r.ts (attempts_settings k bytes q.tried q.sound) (sends_settings k bytes _ _ _ q.tried q.sends) r.made.sound
+      done (moved_append (one_sent q.made) (one_heard r.made)) (
+        all_sent x q.tried r.ts (attempts_settings (kept u) bytes q.tried q.sound) (sends_settings (kept u) bytes _ _ _ q.tried q.sends) r.made.sound
             (subst (λ y. FillsExactly y (n - a - refusals q.tried) TestMessageReceived x r.ts) f (subst (λ y. FillsExactly (length before) y TestMessageReceived x r.ts) z r.fills)),
         whole x (length before) (n' - b) _ r.ts before after r.fills refl r.buffer,
       )
@@ -216,47 +214,45 @@ none_taken (x ∷ xs) e = absurd (omega arith)
 pub waited_within : (m n a b : ℕ) (w : Wait) (ts : List Try) (bs : List ℕ) → WaitsFor m w None ts bs → b ≡ a + misses ts → a ≤ n → m ≡ n - a → b ≤ n
 waited_within m n a b w ts bs (came us v z p q) e f g = let h = misses_append us (took v z ∷ []) in omega arith
 
-module _ {S : Type 0} (d : Device S) (s t : S) (k l : Kept) (n a : ℕ) where
-  pub byte_refused : (x : Refusal) → Some x ≡ Some (refusal 11 []) → Sent d s t k l (test_byte ∷ []) 0
-      → Done d s t k l (ByteTested (settings k) n (Some (refusal 15 (amount x.number ∷ [])))) a a
-  byte_refused x e q =
+module _ {S : Type 0} {d : Device S} {u v : Uart16550 S} where
+  pub byte_refused : {n a : ℕ} {x : Refusal} → Some x ≡ Some (refusal 11 []) → Sent d u v (test_byte ∷ []) 0
+      → Done d u v (ByteTested (settings (kept u)) n (Some (refusal 15 (amount x.number ∷ [])))) a a
+  byte_refused {x = x} e q =
       let z : x ≡ refusal 11 [] = cc in
       let o = alone q.tried (omega (arith, q.one)) in
-      rw z (done d s t k l (offered o.0 ∷ []) _ a a (one_offered d s t k l o.0 (subst (λ y. Made d s t k l y) o.1 q.made))
-      (not_taken o.0 (one_settings k _ o.0 (subst (λ y. Attempts k (test_byte ∷ []) y) o.1 q.sound).1)
+      rw z (done (one_offered o.0 (subst (λ y. Made d u v y) o.1 q.made))
+      (not_taken o.0 (one_settings (kept u) _ o.0 (subst (λ y. Attempts (kept u) (test_byte ∷ []) y) o.1 q.sound).1)
       (none_taken o.0.bytes (subst (λ y. 0 ≡ length (taken y)) o.1 q.answer)))
       (omega arith))
 
-  module _ (q : Sent d s t k l (test_byte ∷ []) 1) (u : S) (m : Kept) (b : ℕ) (ts : List Try) (r : Tried d t u l m ts) (e : b ≡ a + misses ts) where
-    one : (a : Attempt) × (q.tried ≡ a ∷ [])
+  module _ (q : Sent d u v (test_byte ∷ []) 1) {w : Uart16550 S} {ts : List Try} (r : Tried d v w ts) where
+    one : (x : Attempt) × (q.tried ≡ x ∷ [])
     one = alone q.tried (omega (arith, q.one))
 
-    offer : Attempted k (test_byte ∷ []) one.0
-    offer = (subst (λ y. Attempts k (test_byte ∷ []) y) one.1 q.sound).1
+    offer : Attempted (kept u) (test_byte ∷ []) one.0
+    offer = (subst (λ y. Attempts (kept u) (test_byte ∷ []) y) one.1 q.sound).1
 
     took_it : one.0.bytes ≡ test_byte ∷ []
-    took_it = one_taken k test_byte one.0 offer (subst (λ y. 1 ≡ length (taken y)) one.1 q.answer)
+    took_it = one_taken (kept u) test_byte one.0 offer (subst (λ y. 1 ≡ length (taken y)) one.1 q.answer)
 
-    with_byte : (P : List Part → Type 0) → P (offered one.0 ∷ heard ts ∷ []) → Done d s u k m P a b
-    with_byte P h = done d s u k m (offered one.0 ∷ heard ts ∷ []) P a b
-        (moved_append d s t u k l m (offered one.0 ∷ []) (heard ts ∷ []) (one_offered d s t k l one.0 (subst (λ y. Made d s t k l y) one.1 q.made)) (one_heard d t u l m ts r))
-        h (omega arith)
+    with_byte : {P : List Part → Type 0} {a b : ℕ} → b ≡ a + misses ts → P (offered one.0 ∷ heard ts ∷ []) → Done d u w P a b
+    with_byte e h = done (moved_append (one_offered one.0 (subst (λ y. Made d u v y) one.1 q.made)) (one_heard r)) h (omega arith)
 
-    pub byte_late : (x : Refusal) → WaitsFor n TestByte (Some x) ts [] → Done d s u k m (ByteTested (settings k) n (Some x)) a b
-    byte_late x w = with_byte _ (never_back one.0 (one_settings k _ one.0 offer) took_it x ts r.sound w)
+    pub byte_late : {n a b : ℕ} {x : Refusal} → b ≡ a + misses ts → WaitsFor n TestByte (Some x) ts [] → Done d u w (ByteTested (settings (kept u)) n (Some x)) a b
+    byte_late {x = x} e z = with_byte e (never_back one.0 (one_settings (kept u) _ one.0 offer) took_it x ts r.sound z)
 
-    bits : m.config.data_bits ≡ k.config.data_bits
+    bits : w.config.data_bits ≡ u.config.data_bits
     bits =
         let p = r.keeps in let p' = q.made.keeps in
         ap (λ j. j.config.data_bits) p ∙ ap (λ j. j.config.data_bits) p'
 
-    module _ (z mask : ℕ) (f : mask ≡ data_mask m.config.data_bits) (w : WaitsFor n TestByte None ts (z ∷ [])) where
-      pub byte_other : (bit_and z mask ≡ bit_and test_byte mask → ⊥) → Done d s u k m (ByteTested (settings k) n (Some (refusal 16 (amount z ∷ [])))) a b
-      byte_other h = with_byte _ (another one.0 (one_settings k _ one.0 offer) took_it ts z r.sound w
+    module _ {n a b : ℕ} (e : b ≡ a + misses ts) (z mask : ℕ) (f : mask ≡ data_mask w.config.data_bits) (x : WaitsFor n TestByte None ts (z ∷ [])) where
+      pub byte_other : (bit_and z mask ≡ bit_and test_byte mask → ⊥) → Done d u w (ByteTested (settings (kept u)) n (Some (refusal 16 (amount z ∷ [])))) a b
+      byte_other h = with_byte e (another one.0 (one_settings (kept u) _ one.0 offer) took_it ts z r.sound x
           (subst (λ y. bit_and z y ≡ bit_and test_byte y → ⊥) (f ∙ ap data_mask bits) h))
 
-      pub byte_same : bit_and z mask ≡ bit_and test_byte mask → Done d s u k m (ByteTested (settings k) n None) a b
-      byte_same h = with_byte _ (the_same one.0 (one_settings k _ one.0 offer) took_it ts z r.sound w
+      pub byte_same : bit_and z mask ≡ bit_and test_byte mask → Done d u w (ByteTested (settings (kept u)) n None) a b
+      byte_same h = with_byte e (the_same one.0 (one_settings (kept u) _ one.0 offer) took_it ts z r.sound x
           (subst (λ y. bit_and z y ≡ bit_and test_byte y) (f ∙ ap data_mask bits) h))
 
 -- Bytes of which only some bits count

@@ -4,22 +4,23 @@ use Rattle.std.proofs.lemmas.List.{take_all}
 use Rattle.std.proofs.lemmas.Bool.{cases_lt}
 use Rattle.registers.specs.Refusal.{Refusal}
 use Rattle.backends.specs.Device.{Device, Runs, rd, wr}
-use Rattle.driver.specs.Kept.{Kept}
+use Rattle.driver.specs.declared.uart.Uart16550.{Uart16550}
+use Rattle.driver.specs.Kept.{kept}
 use Rattle.driver.specs.Traces.{noting}
 use Rattle.driver.specs.Sends.{lines, asks, Answers, writes_of, AskedToSend, Sent, burst, refused, wrote}
 use Rattle.driver.proofs.Runs.{runs_append}
 use Rattle.driver.proofs.Tries.{noting_append}
 
-module _ {S : Type 0} (d : Device S) where
-  -- a question of three reads
-  pub asked_lines : (s t u w : S) (k l n : Kept) (v m z : ℕ) (x : Option Refusal) → Runs d (rd 5 v ∷ []) s t → Runs d (rd 4 m ∷ []) t u → Runs d (rd 6 z ∷ []) u w
-      → l ≡ noting k (v ∷ []) [] → n ≡ noting l [] (z ∷ []) → Answers k.config.check_cts_before_sending (lines v m z) x → AskedToSend d s w k n x
-  asked_lines s t u w k l n v m z x p q r e f a = record {
-    question = lines v m z;
-    answer = a;
-    ran = runs_append d (rd 5 v ∷ rd 4 m ∷ []) (rd 6 z ∷ []) s u w (runs_append d (rd 5 v ∷ []) (rd 4 m ∷ []) s t u p q) r;
-    keeps = f ∙ ap (λ k. noting k [] (z ∷ [])) e ∙ noting_append k (v ∷ []) [] [] (z ∷ []);
-  }
+-- a question of three reads
+pub asked_lines : {S : Type 0} {d : Device S} {u v w : Uart16550 S} (t : S) (status m z : ℕ) {x : Option Refusal}
+    → Runs d (rd 5 status ∷ []) u.backend v.backend → Runs d (rd 4 m ∷ []) v.backend t → Runs d (rd 6 z ∷ []) t w.backend
+    → kept v ≡ noting (kept u) (status ∷ []) [] → kept w ≡ noting (kept v) [] (z ∷ []) → Answers u.config.check_cts_before_sending (lines status m z) x → AskedToSend d u w x
+asked_lines {d = d} {u = u} {v = v} {w = w} t status m z p q r e f a = record {
+  question = lines status m z;
+  answer = a;
+  ran = runs_append d (rd 5 status ∷ rd 4 m ∷ []) (rd 6 z ∷ []) u.backend t w.backend (runs_append d (rd 5 status ∷ []) (rd 4 m ∷ []) u.backend v.backend t p q) r;
+  keeps = f ∙ ap (λ k. noting k [] (z ∷ [])) e ∙ noting_append (kept u) (status ∷ []) [] [] (z ∷ []);
+}
 
 -- one byte more was written
 pub writes_append : (bs cs : List ℕ) → writes_of (bs ++ cs) ≡ writes_of bs ++ writes_of cs
@@ -33,14 +34,14 @@ take_min n xs = ⊎_elim
     (λ h. let e : min n (length xs) ≡ length xs = omega arith in ap (λ m. take m xs) e ∙ take_all (length xs) xs (omega arith) ∙ sym (take_all n xs h))
     (cases_lt n (length xs))
 
-module _ {S : Type 0} (d : Device S) (s t : S) (k l : Kept) (buffer : List ℕ) where
+module _ {S : Type 0} {d : Device S} {u w : Uart16550 S} {buffer : List ℕ} where
   -- nothing to send: no access
-  pub sent_nothing : length buffer ≡ 0 → s ≡ t → l ≡ k → Sent d s t k l buffer 0
+  pub sent_nothing : length buffer ≡ 0 → u.backend ≡ w.backend → kept w ≡ kept u → Sent d u w buffer 0
   sent_nothing e p q = record { tried = []; made = record { ran = p; keeps = q }; sound = tt; one = omega arith; answer = refl }
 
   -- one attempt that was refused
-  pub sent_refused : (x : Refusal) → 0 < length buffer → AskedToSend d s t k l (Some x) → Sent d s t k l buffer 0
-  sent_refused x h a = record {
+  pub sent_refused : {x : Refusal} → 0 < length buffer → AskedToSend d u w (Some x) → Sent d u w buffer 0
+  sent_refused {x = x} h a = record {
     tried = record { question = a.question; bytes = [] } ∷ [];
     made = record { ran = simp append-nil a.ran; keeps = simp append-nil a.keeps };
     sound = (h, refused a.question x a.answer, tt);
@@ -49,21 +50,22 @@ module _ {S : Type 0} (d : Device S) (s t : S) (k l : Kept) (buffer : List ℕ) 
   }
 
   -- one attempt that took bytes
-  pub sent_some : (m : Kept) (u : S) (count i room : ℕ) → 0 < length buffer → AskedToSend d s u k m None → l ≡ m
-      → room ≡ burst m → count ≡ min room (length buffer) → length (take (count - 0) buffer) ≤ i
-      → Runs d (writes_of (take i (take (count - 0) buffer))) u t → Sent d s t k l buffer count
-  sent_some m u count i room h a e r c j w =
-      let b : room ≡ burst k = r ∙ ap burst a.keeps in
-      let q : count ≡ min (burst k) (length buffer) = omega arith in
-      let z : count - 0 ≡ min (burst k) (length buffer) = omega arith in
-      let y : take i (take (count - 0) buffer) ≡ take (burst k) buffer = take_all i (take (count - 0) buffer) j ∙ ap (λ n. take n buffer) z ∙ take_min (burst k) buffer in
+  pub sent_some : {v : Uart16550 S} (count i room : ℕ) → 0 < length buffer → AskedToSend d u v None → kept w ≡ kept v
+      → room ≡ burst (kept v) → count ≡ min room (length buffer) → length (take (count - 0) buffer) ≤ i
+      → Runs d (writes_of (take i (take (count - 0) buffer))) v.backend w.backend → Sent d u w buffer count
+  sent_some {v = v} count i room h a e r c j x =
+      let b : room ≡ burst (kept u) = r ∙ ap burst a.keeps in
+      let q : count ≡ min (burst (kept u)) (length buffer) = omega arith in
+      let z : count - 0 ≡ min (burst (kept u)) (length buffer) = omega arith in
+      let y : take i (take (count - 0) buffer) ≡ take (burst (kept u)) buffer = take_all i (take (count - 0) buffer) j ∙ ap (λ n. take n buffer) z ∙ take_min (burst (kept u)) buffer in
       record {
-        tried = record { question = a.question; bytes = take (burst k) buffer } ∷ [];
+        tried = record { question = a.question; bytes = take (burst (kept u)) buffer } ∷ [];
         made = record {
-          ran = simp append-nil (runs_append d (asks a.question) (writes_of (take (burst k) buffer)) s u t a.ran (subst (λ bs. Runs d (writes_of bs) u t) y w));
+          ran = simp append-nil (runs_append d (asks a.question) (writes_of (take (burst (kept u)) buffer)) u.backend v.backend w.backend a.ran
+              (subst (λ bs. Runs d (writes_of bs) v.backend w.backend) y x));
           keeps = e ∙ simp append-nil a.keeps;
         };
         sound = (h, wrote a.question a.answer, tt);
         one = omega arith;
-        answer = q ∙ simp append-nil (sym (length-take (burst k) buffer));
+        answer = q ∙ simp append-nil (sym (length-take (burst (kept u)) buffer));
       }

@@ -4,7 +4,8 @@ use lib.Bits.{bit_and, bit_or}
 use Rattle.registers.specs.Flags.{line_errors, line_changes}
 use Rattle.backends.specs.Device.{Device, rd}
 use Rattle.registers.specs.Offsets.{at_data, at_lsr}
-use Rattle.driver.specs.Kept.{Kept, with_saved}
+use Rattle.driver.specs.declared.uart.Uart16550.{Uart16550}
+use Rattle.driver.specs.Kept.{Kept, kept, with_saved}
 use Rattle.driver.specs.Traces.{joined, noting}
 use Rattle.driver.specs.Receives.{Try, took, missed, Sound, tries, got, statuses, misses, filled, Made}
 use Rattle.driver.proofs.Runs.{runs_append}
@@ -45,16 +46,16 @@ misses_append [] us = sym (zero-add (misses us))
 misses_append (took v b ∷ ts) us = misses_append ts us
 misses_append (missed v ∷ ts) us = let e = misses_append ts us in omega arith
 
-pub no_tries : {S : Type 0} (d : Device S) (s : S) (k : Kept) → Made d s s k k []
-no_tries d s k = record { sound = tt; ran = refl; keeps = refl }
+pub no_tries : {S : Type 0} {d : Device S} {u : Uart16550 S} → Made d u u []
+no_tries = record { sound = tt; ran = refl; keeps = refl }
 
 -- tries, and then others
-pub made_append : {S : Type 0} (d : Device S) (s t u : S) (k l n : Kept) (ts us : List Try) → Made d s t k l ts → Made d t u l n us → Made d s u k n (ts ++ us)
-made_append d s t u k l n ts us p q = record {
+pub made_append : {S : Type 0} {d : Device S} {u v w : Uart16550 S} {ts us : List Try} → Made d u v ts → Made d v w us → Made d u w (ts ++ us)
+made_append {d = d} {u = u} {v = v} {w = w} {ts = ts} {us = us} p q = record {
   sound = sound_append ts us p.sound q.sound;
-  ran = rw (tries_append ts us) (runs_append d (tries ts) (tries us) s t u p.ran q.ran);
-  keeps = q.keeps ∙ ap (λ m. noting m (statuses us) []) p.keeps ∙ noting_append k (statuses ts) [] (statuses us) []
-      ∙ ap (λ vs. noting k vs []) (sym (statuses_append ts us));
+  ran = rw (tries_append ts us) (runs_append d (tries ts) (tries us) u.backend v.backend w.backend p.ran q.ran);
+  keeps = q.keeps ∙ ap (λ k. noting k (statuses us) []) p.keeps ∙ noting_append (kept u) (statuses ts) [] (statuses us) []
+      ∙ ap (λ vs. noting (kept u) vs []) (sym (statuses_append ts us));
 }
 
 -- one byte more in the buffer

@@ -4,7 +4,8 @@ use lib.Bits.{bit_and, bit_or}
 use Rattle.std.proofs.lemmas.List.{length_push}
 use Rattle.registers.specs.Flags.{contains, line_errors}
 use Rattle.backends.specs.Device.{Device, Runs, rd}
-use Rattle.driver.specs.Kept.{Kept, with_saved}
+use Rattle.driver.specs.declared.uart.Uart16550.{Uart16550}
+use Rattle.driver.specs.Kept.{Kept, kept, with_saved}
 use Rattle.driver.specs.Traces.{polls, joined, noting, NoneShows, StayedBusy, SeenEmpty}
 use Rattle.driver.proofs.Runs.{runs_append}
 
@@ -24,29 +25,29 @@ noting_push : (k l l' : Kept) (vs : List ℕ) (v : ℕ) → l ≡ noting k vs []
 noting_push k l l' vs v e f =
     f ∙ ap (λ n. noting n (v ∷ []) []) e ∙ ap (λ n. with_saved k n k.msr) (sym (joined_push line_errors k.lsr vs v))
 
-module _ {S : Type 0} (d : Device S) (s t u : S) (k l l' : Kept) (a b v : ℕ) (h : StayedBusy d s t k l a b)
-    (ran : Runs d (rd 5 v ∷ []) t u) (note : l' ≡ noting l (v ∷ []) []) where
-  longer : Runs d (polls h.polled ++ (rd 5 v ∷ [])) s u
-  longer = runs_append d (polls h.polled) (rd 5 v ∷ []) s t u h.ran ran
+module _ {S : Type 0} {d : Device S} {u v w : Uart16550 S} {a b : ℕ} (z : ℕ) (h : StayedBusy d u v a b)
+    (ran : Runs d (rd 5 z ∷ []) v.backend w.backend) (note : kept w ≡ noting (kept v) (z ∷ []) []) where
+  longer : Runs d (polls h.polled ++ (rd 5 z ∷ [])) u.backend w.backend
+  longer = runs_append d (polls h.polled) (rd 5 z ∷ []) u.backend v.backend w.backend h.ran ran
 
   -- one fruitless poll more
-  pub still_busy : contains v 0x40 ≡ false → (n : ℕ) → n ≡ b + 1 → StayedBusy d s u k l' a n
-  still_busy e n f = record {
-    polled = h.polled ++ (v ∷ []);
-    busy = none_push 0x40 h.polled v h.busy e;
-    count = let p = length_push h.polled v in omega (arith, h.count);
+  pub still_busy : contains z 0x40 ≡ false → {n : ℕ} → n ≡ b + 1 → StayedBusy d u w a n
+  still_busy e f = record {
+    polled = h.polled ++ (z ∷ []);
+    busy = none_push 0x40 h.polled z h.busy e;
+    count = let p = length_push h.polled z in omega (arith, h.count);
     ran = rw polls_push longer;
-    keeps = noting_push k l l' h.polled v h.keeps note;
+    keeps = noting_push (kept u) (kept v) (kept w) h.polled z h.keeps note;
   }
 
   -- the poll that shows it empty
-  pub now_empty : contains v 0x40 ≡ true → SeenEmpty d s u k l' a b
+  pub now_empty : contains z 0x40 ≡ true → SeenEmpty d u w a b
   now_empty e = record {
     polled = h.polled;
-    last = v;
+    last = z;
     busy = h.busy;
     empty = e;
     count = h.count;
     ran = longer;
-    keeps = noting_push k l l' h.polled v h.keeps note;
+    keeps = noting_push (kept u) (kept v) (kept w) h.polled z h.keeps note;
   }

@@ -9,7 +9,8 @@ use Rattle.registers.specs.Offsets.{at_ier, at_mcr, at_lsr, at_msr}
 use Rattle.registers.specs.Refusal.{Refusal, refusal, amount, during}
 use Rattle.backends.specs.declared.access.Access.{Access}
 use Rattle.backends.specs.Device.{Device, Runs, rd, wr}
-use Rattle.driver.specs.Kept.{Kept, with_fifo, with_saved}
+use Rattle.driver.specs.declared.uart.Uart16550.{Uart16550}
+use Rattle.driver.specs.Kept.{Kept, kept, with_fifo, with_saved}
 use Rattle.driver.specs.Traces.{joined, noting, polls, NoneShows, FifoSetUp}
 use Rattle.driver.specs.Receives.{Sound, Try, missed, tries, statuses, got, misses, FillsExactly, WaitsFor}
 use Rattle.driver.specs.Sends.{Attempt, attempts, line_statuses, modem_statuses, refusals, Attempted, Attempts, SendsExactly}
@@ -163,14 +164,14 @@ pub data LoopTested (n : ℕ) (k : Kept) (place : List ℕ) : Option Refusal →
       (rd at_mcr mcr ∷ rd at_ier ier ∷ (polls vs ++ (rd at_lsr v ∷ [])) ++ (rd at_msr modem ∷ wr at_ier 0 ∷ wr at_mcr loop_back ∷ [])
       ++ (xs ++ accesses ps) ++ restores mcr ier modem')
 
--- The steps as the driver's methods: from the state s and what was kept, k, to the state t and what is kept then, l
+-- The steps as the driver's methods: from the driver as it was, `old`, to the driver as it is then, `new`
 
 -- parts with the property P were done, which the count of fruitless polls grew by
-pub record Done {S : Type 0} (d : Device S) (s t : S) (k l : Kept) (P : List Part → Type 0) (spent total : ℕ) : Type 0 where
+pub record Done {S : Type 0} (d : Device S) (old new : Uart16550 S) (P : List Part → Type 0) (spent total : ℕ) : Type 0 where
   pub parts : List Part
   pub holds : P parts
-  pub ran : Runs d (accesses parts) s t
-  pub keeps : l ≡ noting k (lines_of parts) (modems_of parts)
+  pub ran : Runs d (accesses parts) old.backend new.backend
+  pub keeps : kept new ≡ noting (kept old) (lines_of parts) (modems_of parts)
   pub counted : total ≡ spent + wasted parts
 
 -- a step that was not refused left the count within the budget
@@ -179,20 +180,20 @@ Within None total n = total ≤ n
 Within (Some x) total n = Unit {0}
 
 -- the FIFOs are set up, and then the three steps
-pub record InLoop {S : Type 0} (d : Device S) (s t : S) (k l : Kept) (n : ℕ) (place after : List ℕ) (x : Option Refusal) (spent total : ℕ) : Type 0 where
+pub record InLoop {S : Type 0} (d : Device S) (old new : Uart16550 S) (n : ℕ) (place after : List ℕ) (x : Option Refusal) (spent total : ℕ) : Type 0 where
   pub on : Bool
   pub setting : List Access
   pub parts : List Part
-  pub set_up : FifoSetUp k.config.fifo_trigger_level on setting
-  pub holds : Looped (settings (with_fifo k on)) n place x after parts
-  pub ran : Runs d (setting ++ accesses parts) s t
-  pub keeps : l ≡ noting (with_fifo k on) (lines_of parts) (modems_of parts)
+  pub set_up : FifoSetUp old.config.fifo_trigger_level on setting
+  pub holds : Looped (settings (with_fifo (kept old) on)) n place x after parts
+  pub ran : Runs d (setting ++ accesses parts) old.backend new.backend
+  pub keeps : kept new ≡ noting (with_fifo (kept old) on) (lines_of parts) (modems_of parts)
   pub counted : total ≡ spent + wasted parts
 
--- loop mode is left; of the lines' changes since the modem status `old` only those that the lines show are saved
-pub record Left {S : Type 0} (d : Device S) (s t : S) (k l : Kept) (mcr ier lsr old : ℕ) : Type 0 where
+-- loop mode is left; of the lines' changes since the modem status `before` only those that the lines show are saved
+pub record Left {S : Type 0} (d : Device S) (old new : Uart16550 S) (mcr ier lsr before : ℕ) : Type 0 where
   pub modem : ℕ
   pub changes : ℕ
-  pub shown : LineChanges old modem changes
-  pub ran : Runs d (restores mcr ier modem) s t
-  pub keeps : l ≡ with_saved k lsr (bit_or k.msr changes)
+  pub shown : LineChanges before modem changes
+  pub ran : Runs d (restores mcr ier modem) old.backend new.backend
+  pub keeps : kept new ≡ with_saved (kept old) lsr (bit_or old.msr_saved changes)

@@ -6,7 +6,8 @@ use Rattle.registers.specs.Offsets.{at_data, at_lsr}
 use Rattle.registers.specs.Refusal.{Refusal, refusal, during}
 use Rattle.backends.specs.declared.access.Access.{Access}
 use Rattle.backends.specs.Device.{Device, Runs, rd}
-use Rattle.driver.specs.Kept.{Kept}
+use Rattle.driver.specs.declared.uart.Uart16550.{Uart16550}
+use Rattle.driver.specs.Kept.{kept}
 use Rattle.driver.specs.Traces.{noting}
 
 -- one try to receive: the line status that was read, and the character where it showed one
@@ -60,43 +61,43 @@ pub data FillsExactly (room n : ℕ) (w : Wait) : Option Refusal → List Try �
   cut : (ts : List Try) (v : ℕ) → misses ts ≡ n → length (got ts) < room
       → FillsExactly room n w (Some (refusal 9 (during w ∷ []))) (ts ++ (missed v ∷ []))
 
--- The calls: from the state s and what was kept, k, to the state t and what is kept then, l
+-- The calls: from the driver as it was, `old`, to the driver as it is then, `new`
 
 -- one read of the line status, and a refusal where it shows no character
-pub record AskedReady {S : Type 0} (d : Device S) (s t : S) (k l : Kept) (x : Option Refusal) : Type 0 where
+pub record AskedReady {S : Type 0} (d : Device S) (old new : Uart16550 S) (x : Option Refusal) : Type 0 where
   pub status : ℕ
-  pub ran : Runs d (rd at_lsr status ∷ []) s t
-  pub keeps : l ≡ noting k (status ∷ []) []
+  pub ran : Runs d (rd at_lsr status ∷ []) old.backend new.backend
+  pub keeps : kept new ≡ noting (kept old) (status ∷ []) []
   pub answer : x ≡ cond (contains status data_ready) None (Some (refusal 10 []))
 
 -- these tries were made
-pub record Made {S : Type 0} (d : Device S) (s t : S) (k l : Kept) (ts : List Try) : Type 0 where
+pub record Made {S : Type 0} (d : Device S) (old new : Uart16550 S) (ts : List Try) : Type 0 where
   pub sound : Sound ts
-  pub ran : Runs d (tries ts) s t
-  pub keeps : l ≡ noting k (statuses ts) []
+  pub ran : Runs d (tries ts) old.backend new.backend
+  pub keeps : kept new ≡ noting (kept old) (statuses ts) []
 
 -- one try, with the character that it took, if any
 abbrev pub one_try : ℕ → Option ℕ → List Try
 one_try v None = missed v ∷ []
 one_try v (Some b) = took v b ∷ []
 
-pub record ReceivedOne {S : Type 0} (d : Device S) (s t : S) (k l : Kept) (x : Option ℕ) : Type 0 where
+pub record ReceivedOne {S : Type 0} (d : Device S) (old new : Uart16550 S) (x : Option ℕ) : Type 0 where
   pub status : ℕ
-  pub made : Made d s t k l (one_try status x)
+  pub made : Made d old new (one_try status x)
 
 -- a buffer is filled; the answer is how many bytes it got
-pub record Received {S : Type 0} (d : Device S) (s t : S) (k l : Kept) (before after : List ℕ) (count : ℕ) : Type 0 where
+pub record Received {S : Type 0} (d : Device S) (old new : Uart16550 S) (before after : List ℕ) (count : ℕ) : Type 0 where
   pub ts : List Try
-  pub made : Made d s t k l ts
+  pub made : Made d old new ts
   pub fills : Fills (length before) ts
   pub buffer : after ≡ filled (got ts) before
   pub answer : count ≡ length (got ts)
 
 -- a buffer is filled to its end; the answer carries the fruitless tries and the bytes that it got
-pub record ReceivedExactly {S : Type 0} (d : Device S) (s t : S) (k l : Kept) (n : ℕ) (w : Wait)
+pub record ReceivedExactly {S : Type 0} (d : Device S) (old new : Uart16550 S) (n : ℕ) (w : Wait)
     (before after : List ℕ) (x : Option Refusal) (fruitless count : ℕ) : Type 0 where
   pub ts : List Try
-  pub made : Made d s t k l ts
+  pub made : Made d old new ts
   pub fills : FillsExactly (length before) n w x ts
   pub buffer : after ≡ filled (got ts) before
   pub counted : fruitless ≡ misses ts

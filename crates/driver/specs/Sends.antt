@@ -6,7 +6,8 @@ use Rattle.registers.specs.Offsets.{at_data, at_lsr, at_mcr, at_msr}
 use Rattle.registers.specs.Refusal.{Refusal, refusal, during}
 use Rattle.backends.specs.declared.access.Access.{Access}
 use Rattle.backends.specs.Device.{Device, Runs, rd, wr}
-use Rattle.driver.specs.Kept.{Kept}
+use Rattle.driver.specs.declared.uart.Uart16550.{Uart16550}
+use Rattle.driver.specs.Kept.{Kept, kept}
 use Rattle.driver.specs.Traces.{noting}
 
 -- what was read to learn whether something may be sent: the line status, then perhaps the modem control, then perhaps the modem status
@@ -92,25 +93,25 @@ abbrev pub Attempts : Kept → List ℕ → List Attempt → Type 0
 Attempts k buffer [] = Unit {0}
 Attempts k buffer (a ∷ rest) = (0 < length buffer) × Attempted k buffer a × Attempts k (drop (length a.bytes) buffer) rest
 
--- The calls: from the state s and what was kept, k, to the state t and what is kept then, l
+-- The calls: from the driver as it was, `old`, to the driver as it is then, `new`
 
 -- these attempts were made
-pub record Made {S : Type 0} (d : Device S) (s t : S) (k l : Kept) (tried : List Attempt) : Type 0 where
-  pub ran : Runs d (attempts tried) s t
-  pub keeps : l ≡ noting k (line_statuses tried) (modem_statuses tried)
+pub record Made {S : Type 0} (d : Device S) (old new : Uart16550 S) (tried : List Attempt) : Type 0 where
+  pub ran : Runs d (attempts tried) old.backend new.backend
+  pub keeps : kept new ≡ noting (kept old) (line_statuses tried) (modem_statuses tried)
 
 -- the question alone, and its answer
-pub record AskedToSend {S : Type 0} (d : Device S) (s t : S) (k l : Kept) (x : Option Refusal) : Type 0 where
+pub record AskedToSend {S : Type 0} (d : Device S) (old new : Uart16550 S) (x : Option Refusal) : Type 0 where
   pub question : Question
-  pub answer : Answers k.config.check_cts_before_sending question x
-  pub ran : Runs d (asks question) s t
-  pub keeps : l ≡ noting k (line_status question ∷ []) (modem_status question)
+  pub answer : Answers old.config.check_cts_before_sending question x
+  pub ran : Runs d (asks question) old.backend new.backend
+  pub keeps : kept new ≡ noting (kept old) (line_status question ∷ []) (modem_status question)
 
 -- at most one attempt; the answer is how many bytes it took
-pub record Sent {S : Type 0} (d : Device S) (s t : S) (k l : Kept) (buffer : List ℕ) (count : ℕ) : Type 0 where
+pub record Sent {S : Type 0} (d : Device S) (old new : Uart16550 S) (buffer : List ℕ) (count : ℕ) : Type 0 where
   pub tried : List Attempt
-  pub made : Made d s t k l tried
-  pub sound : Attempts k buffer tried
+  pub made : Made d old new tried
+  pub sound : Attempts (kept old) buffer tried
   pub one : length tried ≡ min 1 (length buffer)
   pub answer : count ≡ length (taken tried)
 
@@ -121,11 +122,11 @@ pub data SendsExactly (k : Kept) (buffer : List ℕ) (n : ℕ) (w : Wait) : Opti
       → SendsExactly k buffer n w (Some (refusal 9 (during w ∷ []))) (tried ++ (record { question = q; bytes = [] } ∷ []))
 
 -- the answer carries the fruitless attempts and the bytes that were taken
-pub record SentExactly {S : Type 0} (d : Device S) (s t : S) (k l : Kept) (buffer : List ℕ) (n : ℕ) (w : Wait)
+pub record SentExactly {S : Type 0} (d : Device S) (old new : Uart16550 S) (buffer : List ℕ) (n : ℕ) (w : Wait)
     (x : Option Refusal) (fruitless count : ℕ) : Type 0 where
   pub tried : List Attempt
-  pub made : Made d s t k l tried
-  pub sound : Attempts k buffer tried
-  pub sends : SendsExactly k buffer n w x tried
+  pub made : Made d old new tried
+  pub sound : Attempts (kept old) buffer tried
+  pub sends : SendsExactly (kept old) buffer n w x tried
   pub counted : fruitless ≡ refusals tried
   pub answer : count ≡ length (taken tried)

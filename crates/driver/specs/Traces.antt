@@ -12,7 +12,8 @@ use Rattle.registers.specs.Frame.{frame}
 use Rattle.registers.specs.Refusal.{Refusal, refusal, during}
 use Rattle.backends.specs.declared.access.Access.{Access}
 use Rattle.backends.specs.Device.{Device, Runs, rd, wr}
-use Rattle.driver.specs.Kept.{Kept, with_config, with_fifo, with_saved}
+use Rattle.driver.specs.declared.uart.Uart16550.{Uart16550}
+use Rattle.driver.specs.Kept.{Kept, kept, with_config, with_fifo, with_saved}
 
 -- some list of accesses with the property P led from the state s to the state t
 abbrev pub Ran : {S : Type 0} → Device S → (List Access → Type 0) → S → S → Type 0
@@ -64,22 +65,22 @@ NoneShows m [] = Unit {0}
 NoneShows m (v ∷ vs) = (contains v m ≡ false) × NoneShows m vs
 
 -- a wait for the transmitter: polls that did not show it empty, which the count of fruitless polls grew by
-pub record StayedBusy {S : Type 0} (d : Device S) (s t : S) (k l : Kept) (spent total : ℕ) : Type 0 where
+pub record StayedBusy {S : Type 0} (d : Device S) (old new : Uart16550 S) (spent total : ℕ) : Type 0 where
   pub polled : List ℕ
   pub busy : NoneShows transmitter_empty polled
   pub count : total ≡ spent + length polled
-  pub ran : Runs d (polls polled) s t
-  pub keeps : l ≡ noting k polled []
+  pub ran : Runs d (polls polled) old.backend new.backend
+  pub keeps : kept new ≡ noting (kept old) polled []
 
 -- and then one that did
-pub record SeenEmpty {S : Type 0} (d : Device S) (s t : S) (k l : Kept) (spent total : ℕ) : Type 0 where
+pub record SeenEmpty {S : Type 0} (d : Device S) (old new : Uart16550 S) (spent total : ℕ) : Type 0 where
   pub polled : List ℕ
   pub last : ℕ
   pub busy : NoneShows transmitter_empty polled
   pub empty : contains last transmitter_empty ≡ true
   pub count : total ≡ spent + length polled
-  pub ran : Runs d (polls polled ++ (rd at_lsr last ∷ [])) s t
-  pub keeps : l ≡ noting k (polled ++ (last ∷ [])) []
+  pub ran : Runs d (polls polled ++ (rd at_lsr last ∷ [])) old.backend new.backend
+  pub keeps : kept new ≡ noting (kept old) (polled ++ (last ∷ [])) []
 
 -- status registers are read to clear them
 pub data Cleared : List Access → Type 0 where

@@ -18,7 +18,7 @@ impl<B: Backend> Uart16550<B> {
     /// Whether a remote is there and can receive: 13 without data-set-ready, then 14 without
     /// clear-to-send.
     pub fn check_connected(&mut self) -> Result<(), RemoteReadyToReceiveError>
-        ensures { Connected B.device self.old.backend self.new.backend (kept self.old) (kept self.new) (verdict remote_refusal result) }
+        ensures { Connected B.device self.old self.new (verdict remote_refusal result) }
     {
         let status = self.read_msr();
         if !contains(status, msr::DSR) {
@@ -32,14 +32,14 @@ impl<B: Backend> Uart16550<B> {
 
     /// Enables these interrupts besides those that are enabled.
     pub fn enable_interrupts(&mut self, interrupts: u8)
-        ensures { Switched B.device self.old.backend self.new.backend (kept self.old) (kept self.new) (λ v. bit_or v interrupts) }
+        ensures { Switched B.device self.old self.new (λ v. bit_or v interrupts) }
     {
         self.switch_interrupts(|enabled| enabled | interrupts);
     }
 
     /// Disables these interrupts.
     pub fn disable_interrupts(&mut self, interrupts: u8)
-        ensures { Switched B.device self.old.backend self.new.backend (kept self.old) (kept self.new) (λ v. bit_and v (255 - interrupts)) }
+        ensures { Switched B.device self.old self.new (λ v. bit_and v (255 - interrupts)) }
     {
         self.switch_interrupts(|enabled| enabled & !interrupts);
     }
@@ -60,28 +60,28 @@ impl<B: Backend> Uart16550<B> {
 
     /// The interrupt enable register.
     pub fn ier(&mut self) -> u8
-        ensures { Looked B.device self.old.backend self.new.backend (kept self.old) (kept self.new) at_ier result }
+        ensures { Looked B.device self.old self.new at_ier result }
     {
         self.backend.read(offsets::IER)
     }
 
     /// The interrupt status register.
     pub fn isr(&mut self) -> u8
-        ensures { Looked B.device self.old.backend self.new.backend (kept self.old) (kept self.new) at_isr result }
+        ensures { Looked B.device self.old self.new at_isr result }
     {
         self.backend.read(offsets::ISR)
     }
 
     /// The line control register.
     pub fn lcr(&mut self) -> u8
-        ensures { Looked B.device self.old.backend self.new.backend (kept self.old) (kept self.new) at_lcr result }
+        ensures { Looked B.device self.old self.new at_lcr result }
     {
         self.backend.read(offsets::LCR)
     }
 
     /// The modem control register.
     pub fn mcr(&mut self) -> u8
-        ensures { Looked B.device self.old.backend self.new.backend (kept self.old) (kept self.new) at_mcr result }
+        ensures { Looked B.device self.old self.new at_mcr result }
     {
         self.backend.read(offsets::MCR)
     }
@@ -90,7 +90,7 @@ impl<B: Backend> Uart16550<B> {
 
     /// The line status, with the errors that earlier calls saw; they are then forgotten.
     pub fn lsr(&mut self) -> u8
-        ensures { LineLooked B.device self.old.backend self.new.backend (kept self.old) (kept self.new) result }
+        ensures { LineLooked B.device self.old self.new result }
     {
         let status = self.read_lsr() | self.lsr_saved;
         self.lsr_saved = 0;
@@ -99,7 +99,7 @@ impl<B: Backend> Uart16550<B> {
 
     /// The modem status, with the changes that earlier calls saw; they are then forgotten.
     pub fn msr(&mut self) -> u8
-        ensures { ModemLooked B.device self.old.backend self.new.backend (kept self.old) (kept self.new) result }
+        ensures { ModemLooked B.device self.old self.new result }
     {
         let status = self.read_msr() | self.msr_saved;
         self.msr_saved = 0;
@@ -108,7 +108,7 @@ impl<B: Backend> Uart16550<B> {
 
     /// The scratch pad register.
     pub fn spr(&mut self) -> u8
-        ensures { Looked B.device self.old.backend self.new.backend (kept self.old) (kept self.new) at_spr result }
+        ensures { Looked B.device self.old self.new at_spr result }
     {
         self.backend.read(offsets::SPR)
     }
@@ -116,7 +116,7 @@ impl<B: Backend> Uart16550<B> {
     /// The low and the high byte of the divisor. The line control register is written back as it
     /// was found.
     pub fn dll_dlm(&mut self) -> (u8, u8)
-        ensures { DivisorLooked B.device self.old.backend self.new.backend (kept self.old) (kept self.new) result.0 result.1 }
+        ensures { DivisorLooked B.device self.old self.new result.0 result.1 }
     {
         let found = self.lcr();
         self.backend.write(offsets::LCR, found | lcr::DLAB);
@@ -129,7 +129,7 @@ impl<B: Backend> Uart16550<B> {
     /// All registers that can be read. Errors and changes that the reads clear are saved, and the
     /// fields have the saved ones too.
     pub fn config_register_dump(&mut self) -> ConfigRegisterDump
-        ensures { Dumped B.device self.old.backend self.new.backend (kept self.old) (kept self.new) result }
+        ensures { Dumped B.device self.old self.new result }
     {
         let (dll, dlm) = self.dll_dlm();
         let ier = self.ier();

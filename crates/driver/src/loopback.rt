@@ -93,7 +93,7 @@ impl<B: Backend> Uart16550<B> {
 
     /// Leaves loop mode: the registers and the saved line errors are what they were.
     fn leave_loop_mode(&mut self, mcr: u8, ier: u8, lsr_saved: u8, old_msr: u8)
-        ensures { Left B.device self.old.backend self.new.backend (kept self.old) (kept self.new) mcr ier lsr_saved old_msr }
+        ensures { Left B.device self.old self.new mcr ier lsr_saved old_msr }
     {
         // the modem lines change here, and no interrupt is to tell of it
         self.backend
@@ -112,7 +112,7 @@ impl<B: Backend> Uart16550<B> {
         budget: &mut Budget,
     ) -> Result<(), LoopbackError>
         requires { budget.old.fruitless ≤ budget.old.limit }
-        ensures { InLoop B.device self.old.backend self.new.backend (kept self.old) (kept self.new) (budget.old.limit - budget.old.fruitless) place.old place.new (verdict loopback_refusal result) budget.old.fruitless budget.new.fruitless }
+        ensures { InLoop B.device self.old self.new (budget.old.limit - budget.old.fruitless) place.old place.new (verdict loopback_refusal result) budget.old.fruitless budget.new.fruitless }
     {
         // this empties FIFOs
         self.configure_fcr();
@@ -126,7 +126,7 @@ impl<B: Backend> Uart16550<B> {
         budget: &mut Budget,
     ) -> Result<(), LoopbackError>
         requires { budget.old.fruitless ≤ budget.old.limit }
-        ensures { Done B.device self.old.backend self.new.backend (kept self.old) (kept self.new) (Looped (settings (kept self.old)) (budget.old.limit - budget.old.fruitless) place.old (verdict loopback_refusal result) place.new) budget.old.fruitless budget.new.fruitless }
+        ensures { Done B.device self.old self.new (Looped (settings (kept self.old)) (budget.old.limit - budget.old.fruitless) place.old (verdict loopback_refusal result) place.new) budget.old.fruitless budget.new.fruitless }
     {
         self.drain(budget)?;
         self.test_byte(budget)?;
@@ -138,7 +138,7 @@ impl<B: Backend> Uart16550<B> {
         requires { budget.old.fruitless ≤ budget.old.limit }
         ensures limit { budget.new.limit ≡ budget.old.limit }
         ensures room { Within (verdict budget_refusal result) budget.new.fruitless budget.old.limit }
-        ensures drained { Done B.device self.old.backend self.new.backend (kept self.old) (kept self.new) (Drains (budget.old.limit - budget.old.fruitless) (verdict budget_refusal result)) budget.old.fruitless budget.new.fruitless }
+        ensures drained { Done B.device self.old self.new (Drains (budget.old.limit - budget.old.fruitless) (verdict budget_refusal result)) budget.old.fruitless budget.new.fruitless }
     {
         while let Ok(_) = self.try_receive_byte() {
             budget.spend(Wait::Drain)?;
@@ -151,7 +151,7 @@ impl<B: Backend> Uart16550<B> {
         requires { budget.old.fruitless ≤ budget.old.limit }
         ensures limit { budget.new.limit ≡ budget.old.limit }
         ensures room { Within (verdict loopback_refusal result) budget.new.fruitless budget.old.limit }
-        ensures tested { Done B.device self.old.backend self.new.backend (kept self.old) (kept self.new) (ByteTested (settings (kept self.old)) (budget.old.limit - budget.old.fruitless) (verdict loopback_refusal result)) budget.old.fruitless budget.new.fruitless }
+        ensures tested { Done B.device self.old self.new (ByteTested (settings (kept self.old)) (budget.old.limit - budget.old.fruitless) (verdict loopback_refusal result)) budget.old.fruitless budget.new.fruitless }
     {
         self.try_send_byte(TEST_BYTE)?;
         let byte = self.receive_waiting(budget, Wait::TestByte)?;
@@ -169,7 +169,7 @@ impl<B: Backend> Uart16550<B> {
         budget: &mut Budget,
     ) -> Result<(), LoopbackError>
         requires { budget.old.fruitless ≤ budget.old.limit }
-        ensures { Done B.device self.old.backend self.new.backend (kept self.old) (kept self.new) (MessageTested (settings (kept self.old)) (budget.old.limit - budget.old.fruitless) place.old (verdict loopback_refusal result) place.new) budget.old.fruitless budget.new.fruitless }
+        ensures { Done B.device self.old self.new (MessageTested (settings (kept self.old)) (budget.old.limit - budget.old.fruitless) place.old (verdict loopback_refusal result) place.new) budget.old.fruitless budget.new.fruitless }
     {
         let mut back = [0; 16];
         self.echo_message(&mut back, budget)?;
@@ -184,7 +184,7 @@ impl<B: Backend> Uart16550<B> {
     /// Sends the test message and reads it back. Without FIFOs the receiver holds only one byte.
     fn echo_message(&mut self, back: &mut [u8; 16], budget: &mut Budget) -> Result<(), BudgetError>
         requires { budget.old.fruitless ≤ budget.old.limit }
-        ensures { Done B.device self.old.backend self.new.backend (kept self.old) (kept self.new) (λ ps. MessageEchoed (settings (kept self.old)) (budget.old.limit - budget.old.fruitless) (verdict budget_refusal result) ps × (verdict budget_refusal result ≡ None → back.new ≡ came_back ps)) budget.old.fruitless budget.new.fruitless }
+        ensures { Done B.device self.old self.new (λ ps. MessageEchoed (settings (kept self.old)) (budget.old.limit - budget.old.fruitless) (verdict budget_refusal result) ps × (verdict budget_refusal result ≡ None → back.new ≡ came_back ps)) budget.old.fruitless budget.new.fruitless }
     {
         if self.fifo_enabled {
             return self.echo(&TEST_MESSAGE, back, budget);
@@ -209,7 +209,7 @@ impl<B: Backend> Uart16550<B> {
         requires lengths { length back.old ≡ length bytes.now }
         ensures limit { budget.new.limit ≡ budget.old.limit }
         ensures room { Within (verdict budget_refusal result) budget.new.fruitless budget.old.limit }
-        ensures echoed { Done B.device self.old.backend self.new.backend (kept self.old) (kept self.new) (λ ps. Echoed (settings (kept self.old)) (budget.old.limit - budget.old.fruitless) bytes.now (verdict budget_refusal result) ps × (verdict budget_refusal result ≡ None → back.new ≡ came_back ps)) budget.old.fruitless budget.new.fruitless }
+        ensures echoed { Done B.device self.old self.new (λ ps. Echoed (settings (kept self.old)) (budget.old.limit - budget.old.fruitless) bytes.now (verdict budget_refusal result) ps × (verdict budget_refusal result ≡ None → back.new ≡ came_back ps)) budget.old.fruitless budget.new.fruitless }
     {
         self.send_all(bytes, budget, Wait::TestMessageSent).result?;
         self.fill(back, budget, Wait::TestMessageReceived).result

@@ -17,7 +17,7 @@ impl<B: Backend> Uart16550<B> {
     /// Whether something may be sent: 11 where the transmitter holds characters, 12 where the
     /// remote's clear-to-send line is checked and not shown.
     pub fn ready_to_send(&mut self) -> Result<(), ByteSendError>
-        ensures { AskedToSend B.device self.old.backend self.new.backend (kept self.old) (kept self.new) (verdict send_refusal result) }
+        ensures { AskedToSend B.device self.old self.new (verdict send_refusal result) }
     {
         if !contains(self.read_lsr(), lsr::THR_EMPTY) {
             return Err(ByteSendError::NoCapacity);
@@ -38,7 +38,7 @@ impl<B: Backend> Uart16550<B> {
     /// Sends the first bytes of the buffer, as many as the transmitter takes at once, and answers
     /// how many those were: 0 where nothing may be sent, or the buffer is empty.
     pub fn send_bytes(&mut self, buffer: &[u8]) -> usize
-        ensures { Sent B.device self.old.backend self.new.backend (kept self.old) (kept self.new) buffer.now result }
+        ensures { Sent B.device self.old self.new buffer.now result }
     {
         if buffer.is_empty() {
             return 0;
@@ -63,7 +63,7 @@ impl<B: Backend> Uart16550<B> {
     /// Sends the whole buffer, waiting for the transmitter. Where more than `budget` attempts take
     /// nothing it refuses with 9.
     pub fn send_bytes_exact(&mut self, bytes: &[u8], budget: u16) -> Transferred
-        ensures { SentExactly B.device self.old.backend self.new.backend (kept self.old) (kept self.new) bytes.now budget Send (verdict budget_refusal result.result) result.fruitless result.moved }
+        ensures { SentExactly B.device self.old self.new bytes.now budget Send (verdict budget_refusal result.result) result.fruitless result.moved }
     {
         self.send_all(bytes, &mut Budget::new(budget), Wait::Send)
     }
@@ -74,7 +74,7 @@ impl<B: Backend> Uart16550<B> {
         ensures limit { budget.new.limit ≡ budget.old.limit }
         ensures spent { budget.old.fruitless ≤ budget.new.fruitless }
         ensures counted { result.fruitless ≡ budget.new.fruitless }
-        ensures sent { SentExactly B.device self.old.backend self.new.backend (kept self.old) (kept self.new) bytes.now (budget.old.limit - budget.old.fruitless) wait (verdict budget_refusal result.result) (budget.new.fruitless - budget.old.fruitless) result.moved }
+        ensures sent { SentExactly B.device self.old self.new bytes.now (budget.old.limit - budget.old.fruitless) wait (verdict budget_refusal result.result) (budget.new.fruitless - budget.old.fruitless) result.moved }
     {
         let mut moved = 0;
         while moved < bytes.len() {
@@ -91,7 +91,7 @@ impl<B: Backend> Uart16550<B> {
 
     /// Sends one byte; 11 where nothing may be sent, for whatever reason.
     pub fn try_send_byte(&mut self, byte: u8) -> Result<(), ByteSendError>
-        ensures sent { Sent B.device self.old.backend self.new.backend (kept self.old) (kept self.new) (byte ∷ []) (if is_ok result then 1 else 0) }
+        ensures sent { Sent B.device self.old self.new (byte ∷ []) (if is_ok result then 1 else 0) }
         ensures answer { verdict send_refusal result ≡ (if is_ok result then None else Some (refusal 11 [])) }
     {
         match self.send_bytes(&[byte]) {

@@ -67,9 +67,9 @@ impl<B: Backend> Uart16550<B> {
         ensures limit { budget.new.limit ≡ budget.old.limit }
         ensures answer { elim result [
           | Ok u ↦ (budget.new.fruitless ≤ budget.old.limit)
-              × SeenEmpty B.device self.old.backend self.new.backend (kept self.old) (kept self.new) budget.old.fruitless budget.new.fruitless
+              × SeenEmpty B.device self.old self.new budget.old.fruitless budget.new.fruitless
           | Err e ↦ (e.wait ≡ Transmitter) × (budget.new.fruitless ≡ budget.old.limit + 1)
-              × StayedBusy B.device self.old.backend self.new.backend (kept self.old) (kept self.new) budget.old.fruitless budget.new.fruitless
+              × StayedBusy B.device self.old self.new budget.old.fruitless budget.new.fruitless
         ] }
     {
         while !contains(self.read_lsr(), lsr::TRANSMITTER_EMPTY) {

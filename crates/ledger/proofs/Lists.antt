@@ -1,11 +1,12 @@
 -- Lists of calls.
-use Rattle.std.proofs.Common.{◌≡◌, ℕ, Bool, true, false, List, [], ◌∷◌, ◌++◌, sym, refl, subst, append_assoc, append-nil}
+use Rattle.std.proofs.Common.{◌≡◌, ℕ, Bool, true, false, List, [], ◌∷◌, ◌++◌, Option, sym, refl, subst, append_assoc, append-nil}
 use Rattle.registers.specs.Flags.{contains, divisor_access}
 use Rattle.backends.specs.declared.character.Counts.{Counts}
 use Rattle.backends.specs.Chip.{ChipState, Setup}
 use Rattle.backends.specs.Device.{Device}
 use Rattle.backends.specs.Rules.{KeepsRules}
-use Rattle.driver.specs.Kept.{Kept}
+use Rattle.driver.specs.declared.uart.Uart16550.{Uart16550}
+use Rattle.driver.specs.Kept.{Kept, kept}
 use Rattle.ledger.specs.declared.call.Answer.{Answer}
 use Rattle.ledger.specs.declared.call.Call.{Call}
 use Rattle.ledger.specs.declared.call.Entry.{Entry}
@@ -16,16 +17,15 @@ use Rattle.ledger.proofs.Steps.{At}
 use Rattle.ledger.proofs.Calls.{kept_by, ShowsNow}
 
 -- one call more
-pub played_push : {S : Type 0} (d : Device S) (meaning : S → ChipState) (s t u : S) (k l n : Kept) (es : List Entry) (ms : List ChipState) (c : Call) (e : Entry)
-    → Played d meaning s k es ms t l → Did d t u l n c e.call e.answer → Played d meaning s k (es ++ (e ∷ [])) (ms ++ (meaning u ∷ [])) u n
-played_push d meaning s t u k l n [] [] c e p q =
-    (u, n, (c, subst (λ x. Did d x u k n c e.call e.answer) (sym p.0) (subst (λ x. Did d t u x n c e.call e.answer) (sym p.1) q)), refl, (refl, refl))
-played_push d meaning s t u k l n [] (m ∷ ms) c e p q = absurd p
-played_push d meaning s t u k l n (x ∷ es) [] c e p q = absurd p
-played_push d meaning s t u k l n (x ∷ es) (m ∷ ms) c e p q = (p.0, p.1, p.2, p.3, played_push d meaning p.0 t u p.1 l n es ms c e p.4 q)
+pub played_push : {S : Type 0} (d : Device S) (meaning : S → ChipState) (u v w : Uart16550 S) (es : List Entry) (ms : List ChipState) (c : Call) (e : Entry)
+    → Played d meaning u es ms v → Did d v w c e.call e.answer → Played d meaning u (es ++ (e ∷ [])) (ms ++ (meaning w.backend ∷ [])) w
+played_push d meaning u v w [] [] c e p q = (w, (c, subst (λ x. Did d x w c e.call e.answer) (sym p) q), refl, refl)
+played_push d meaning u v w [] (m ∷ ms) c e p q = absurd p
+played_push d meaning u v w (x ∷ es) [] c e p q = absurd p
+played_push d meaning u v w (x ∷ es) (m ∷ ms) c e p q = (p.0, p.1, p.2, played_push d meaning p.0 v w es ms c e p.3 q)
 
 -- what the getter of the line status has shown, and what is to be shown after it
-shown_more : (b : Bool) (a : Answer) (base now next : Counts) (P : Counts → Type 0) → ShowsNow b a base now next → P next
+shown_more : (b : Bool) (a : Option Answer) (base now next : Counts) (P : Counts → Type 0) → ShowsNow b a base now next → P next
     → elim b as (λ _. Type 0) [ true ↦ AnswerShows a base now × P now | false ↦ P base ]
 shown_more true a base now next P s p = (s.0, subst P s.1 p)
 shown_more false a base now next P s p = subst P s p
@@ -38,22 +38,19 @@ module _ {S : Type 0} (d : Device S) (meaning : S → ChipState) (law : KeepsRul
     pub errors : ErrorsShown base es ms
 
   -- the whole list keeps the ledger
-  pub kept_all : (es : List Entry) (ms : List ChipState) (base : Counts) (out gone : List ℕ) (s t : S) (k l : Kept) → Played d meaning s k es ms t l
-      → At d meaning law start base out gone σ s k → KeptAll es ms base out gone t l
-  kept_all [] [] base out gone s t k l p a = record {
-    next = base;
-    ledger = simp append-nil (subst (λ x. At d meaning law start base out gone σ t x) p.1 (subst (λ x. At d meaning law start base out gone σ x k) p.0 a));
-    errors = tt;
-  }
-  kept_all [] (m ∷ ms) base out gone s t k l p a = absurd p
-  kept_all (e ∷ es) [] base out gone s t k l p a = absurd p
-  kept_all (e ∷ es) (m ∷ ms) base out gone s t k l p a =
-      let q = kept_by d meaning law start σ open_σ base out gone s p.0 k p.1 a p.2.0 e.call e.answer p.2.1 in
-      let r = kept_all es ms q.next (out ++ handed_by e.call e.answer) (gone ++ taken_by e.call e.answer) p.0 t p.1 l p.4 q.ledger in
+  pub kept_all : (es : List Entry) (ms : List ChipState) (base : Counts) (out gone : List ℕ) (u v : Uart16550 S) → Played d meaning u es ms v
+      → At d meaning law start base out gone σ u.backend (kept u) → KeptAll es ms base out gone v.backend (kept v)
+  kept_all [] [] base out gone u v p a = record
+      { next = base; ledger = simp append-nil (subst (λ x. At d meaning law start base out gone σ x.backend (kept x)) p a); errors = tt }
+  kept_all [] (m ∷ ms) base out gone u v p a = absurd p
+  kept_all (e ∷ es) [] base out gone u v p a = absurd p
+  kept_all (e ∷ es) (m ∷ ms) base out gone u v p a =
+      let q = kept_by d meaning law start σ open_σ base out gone u p.0 a p.1.0 e.call e.answer p.1.1 in
+      let r = kept_all es ms q.next (out ++ handed_by e.call e.answer) (gone ++ taken_by e.call e.answer) p.0 v p.3 q.ledger in
       record {
         next = r.next;
-        ledger = subst (λ o. At d meaning law start r.next o (gone ++ (taken_by e.call e.answer ++ taken es)) σ t l) (append_assoc out (handed_by e.call e.answer) (handed es))
-            (subst (λ o. At d meaning law start r.next ((out ++ handed_by e.call e.answer) ++ handed es) o σ t l) (append_assoc gone (taken_by e.call e.answer) (taken es)) r.ledger);
+        ledger = subst (λ o. At d meaning law start r.next o (gone ++ (taken_by e.call e.answer ++ taken es)) σ v.backend (kept v)) (append_assoc out (handed_by e.call e.answer) (handed es))
+            (subst (λ o. At d meaning law start r.next ((out ++ handed_by e.call e.answer) ++ handed es) o σ v.backend (kept v)) (append_assoc gone (taken_by e.call e.answer) (taken es)) r.ledger);
         errors = shown_more (is_lsr e) e.answer base m.receiver.counts q.next (λ b. ErrorsShown b es ms)
-            (subst (λ x. ShowsNow (is_lsr e) e.answer base x.receiver.counts q.next) p.3 q.shows) r.errors;
+            (subst (λ x. ShowsNow (is_lsr e) e.answer base x.receiver.counts q.next) p.2 q.shows) r.errors;
       }

@@ -3,7 +3,7 @@ use Rattle.std.proofs.Common.{◌≡◌, ℕ, ◌+◌, ◌≤◌, List, [], ◌�
 use Rattle.registers.specs.declared.error.Wait.{Wait}
 use Rattle.registers.specs.Refusal.{Refusal}
 use Rattle.backends.specs.Device.{Device}
-use Rattle.driver.specs.Kept.{Kept}
+use Rattle.driver.specs.declared.uart.Uart16550.{Uart16550}
 use Rattle.driver.specs.Receives.{Try, took, missed, got, filled, Fills, full, short, FillsExactly, no_room, all, cut}
 use Rattle.driver.proofs.Tries.{got_append}
 use Rattle.ledger.specs.declared.call.Call.{Call}
@@ -26,25 +26,25 @@ exactly_within room n w x ts (cut us v e h) = omega (arith, got_more us (missed 
 filled_length : (xs before : List ℕ) → length xs ≤ length before → length (filled xs before) ≡ length before
 filled_length xs before h = let a = length-append xs (drop (length xs) before) in let b = length-drop (length xs) before in omega arith
 
-pub same_call : {S : Type 0} (d : Device S) (s t : S) (k l : Kept) (b c : Call) (a : Answer) → Did d s t k l b c a → SameCall b c
-same_call d s t k l b c a (try_receive r w) = unchanged b
-same_call d s t k l b c a (receive u v n w) = received_into u v (ap length w.buffer ∙ filled_length (got w.ts) _ (fills_within _ w.ts w.fills))
-same_call d s t k l b c a (receive_exact u v n r w) = filled_into u v n (ap length w.buffer ∙ filled_length (got w.ts) _ (exactly_within _ _ _ _ w.ts w.fills))
-same_call d s t k l b c a (ready_to_receive r w) = unchanged b
-same_call d s t k l b c a (try_send z r w x) = unchanged b
-same_call d s t k l b c a (send v n w) = unchanged b
-same_call d s t k l b c a (send_exact v n r w) = unchanged b
-same_call d s t k l b c a (ready_to_send r w) = unchanged b
-same_call d s t k l b c a (check_connected r w) = unchanged b
-same_call d s t k l b c a (check_present r w e) = unchanged b
-same_call d s t k l b c a (enable z w) = unchanged b
-same_call d s t k l b c a (disable z w) = unchanged b
-same_call d s t k l b c a (ier v w) = unchanged b
-same_call d s t k l b c a (isr v w) = unchanged b
-same_call d s t k l b c a (lcr v w) = unchanged b
-same_call d s t k l b c a (mcr v w) = unchanged b
-same_call d s t k l b c a (lsr v w) = unchanged b
-same_call d s t k l b c a (msr v w) = unchanged b
-same_call d s t k l b c a (spr v w) = unchanged b
-same_call d s t k l b c a (dll_dlm x y w) = unchanged b
-same_call d s t k l b c a (dump v w) = unchanged b
+pub same_call : {S : Type 0} (d : Device S) (u v : Uart16550 S) (b c : Call) (a : Option Answer) → Did d u v b c a → SameCall b c
+same_call d u v b c a (try_receive r w) = unchanged b
+same_call d u v b c a (receive x y n w) = received_into x y (ap length w.buffer ∙ filled_length (got w.ts) _ (fills_within _ w.ts w.fills))
+same_call d u v b c a (receive_exact x y n r w) = filled_into x y n (ap length w.buffer ∙ filled_length (got w.ts) _ (exactly_within _ _ _ _ w.ts w.fills))
+same_call d u v b c a (ready_to_receive r w) = unchanged b
+same_call d u v b c a (try_send z r w e) = unchanged b
+same_call d u v b c a (send x n w) = unchanged b
+same_call d u v b c a (send_exact x n r w) = unchanged b
+same_call d u v b c a (ready_to_send r w) = unchanged b
+same_call d u v b c a (check_connected r w) = unchanged b
+same_call d u v b c a (check_present r w e) = unchanged b
+same_call d u v b c a (enable z w) = unchanged b
+same_call d u v b c a (disable z w) = unchanged b
+same_call d u v b c a (ier x w) = unchanged b
+same_call d u v b c a (isr x w) = unchanged b
+same_call d u v b c a (lcr x w) = unchanged b
+same_call d u v b c a (mcr x w) = unchanged b
+same_call d u v b c a (lsr x w) = unchanged b
+same_call d u v b c a (msr x w) = unchanged b
+same_call d u v b c a (spr x w) = unchanged b
+same_call d u v b c a (dll_dlm x y w) = unchanged b
+same_call d u v b c a (dump x w) = unchanged b

@@ -10,7 +10,8 @@ use Rattle.backends.specs.declared.character.Character.{Character}
 use Rattle.backends.specs.declared.character.Counts.{Counts}
 use Rattle.backends.specs.Chip.{ChipState, Receiver, is_on}
 use Rattle.backends.specs.Device.{Device, Runs, rd}
-use Rattle.driver.specs.Kept.{Kept}
+use Rattle.driver.specs.declared.uart.Uart16550.{Uart16550}
+use Rattle.driver.specs.Kept.{Kept, kept as held}
 use Rattle.driver.specs.Traces.{Ran, Initialised, DivisorFor}
 use Rattle.ledger.specs.declared.call.Call.{Call}
 use Rattle.ledger.specs.declared.call.Call.TheVariants as call
@@ -48,26 +49,27 @@ pub record ShowsErrors (v : ℕ) (before now : Counts) : Type 0 where
   pub broken : contains v break_interrupt ≡ nat_lt before.broken now.broken
 
 -- the calls of a list, one after the other, with what the chip held at the end of each
-abbrev pub Played : {S : Type 0} → Device S → (S → ChipState) → S → Kept → List Entry → List ChipState → S → Kept → Type 0
-Played d meaning s k [] [] t l = (s ≡ t) × (k ≡ l)
-Played d meaning s k [] (m ∷ ms) t l = ⊥
-Played d meaning s k (e ∷ es) [] t l = ⊥
-Played {S} d meaning s k (e ∷ es) (m ∷ ms) t l =
-    (u : S) × (n : Kept) × ((c : Call) × Did d s u k n c e.call e.answer) × (meaning u ≡ m) × Played d meaning u n es ms t l
+abbrev pub Played : {S : Type 0} → Device S → (S → ChipState) → Uart16550 S → List Entry → List ChipState → Uart16550 S → Type 0
+Played d meaning old [] [] new = old ≡ new
+Played d meaning old [] (m ∷ ms) new = ⊥
+Played d meaning old (e ∷ es) [] new = ⊥
+Played {S} d meaning old (e ∷ es) (m ∷ ms) new =
+    (next : Uart16550 S) × ((c : Call) × Did d old next c e.call e.answer) × (meaning next.backend ≡ m) × Played d meaning next es ms new
 
 -- what an answer of the line status getter has to show
-abbrev pub AnswerShows : Answer → Counts → Counts → Type 0
-AnswerShows (answer.Register v) before now = ShowsErrors v before now
-AnswerShows answer.Nothing before now = Unit {0}
-AnswerShows (answer.Byte r) before now = Unit {0}
-AnswerShows (answer.ReadyToReceive r) before now = Unit {0}
-AnswerShows (answer.Sent r) before now = Unit {0}
-AnswerShows (answer.Connected r) before now = Unit {0}
-AnswerShows (answer.Present b) before now = Unit {0}
-AnswerShows (answer.Count n) before now = Unit {0}
-AnswerShows (answer.Exact t) before now = Unit {0}
-AnswerShows (answer.Divisor a b) before now = Unit {0}
-AnswerShows (answer.Dump v) before now = Unit {0}
+abbrev pub AnswerShows : Option Answer → Counts → Counts → Type 0
+AnswerShows (Some (answer.Register v)) before now = ShowsErrors v before now
+AnswerShows None before now = Unit {0}
+AnswerShows (Some answer.Done) before now = Unit {0}
+AnswerShows (Some (answer.Byte r)) before now = Unit {0}
+AnswerShows (Some (answer.ReadyToReceive r)) before now = Unit {0}
+AnswerShows (Some (answer.Sent r)) before now = Unit {0}
+AnswerShows (Some (answer.Connected r)) before now = Unit {0}
+AnswerShows (Some (answer.Present b)) before now = Unit {0}
+AnswerShows (Some (answer.Count n)) before now = Unit {0}
+AnswerShows (Some (answer.Exact t)) before now = Unit {0}
+AnswerShows (Some (answer.Divisor a b)) before now = Unit {0}
+AnswerShows (Some (answer.Dump v)) before now = Unit {0}
 
 abbrev pub is_lsr : Entry → Bool
 is_lsr e = elim e.call [
@@ -130,22 +132,21 @@ pub record SetUp (c : Config) (m : ChipState) (k : Kept) : Type 0 where
   pub fifos : k.fifo ≡ is_on m.setup.fifos
 
 -- From the start, through the rest of an init that answered Ok, and the list: the whole law.
-pub record Law {S : Type 0} (d : Device S) (meaning : S → ChipState) (c : Config) (budget fruitless : ℕ) (s t : S) (k l : Kept) (list : List Entry) : Type 0 where
-  -- init led from s to a state in which the driver kept n
-  pub ready : S
-  pub n : Kept
+pub record Law {S : Type 0} (d : Device S) (meaning : S → ChipState) (c : Config) (budget fruitless : ℕ) (old new : Uart16550 S) (list : List Entry) : Type 0 where
+  -- init left the driver ready
+  pub ready : Uart16550 S
   pub accesses : List Access
-  pub init : Initialised c budget k None fruitless n accesses
-  pub ran : Runs d accesses s ready
-  pub start : Start d accesses s ready
-  pub set_up : SetUp c (meaning ready) n
-  -- the calls led from there to t
+  pub init : Initialised c budget (held old) None fruitless (held ready) accesses
+  pub ran : Runs d accesses old.backend ready.backend
+  pub start : Start d accesses old.backend ready.backend
+  pub set_up : SetUp c (meaning ready.backend) (held ready)
+  -- the calls led from there to the present
   pub states : List ChipState
-  pub played : Played d meaning ready n list states t l
+  pub played : Played d meaning ready list states new
   -- every character is accounted for, in order
-  pub account : Accounted (meaning start.at).receiver (meaning t).receiver (handed list)
+  pub account : Accounted (meaning start.at).receiver (meaning new.backend).receiver (handed list)
   -- the line was given exactly what sends reported taken
-  pub given : (meaning t).transmitter.given ≡ (meaning start.at).transmitter.given ++ taken list
+  pub given : (meaning new.backend).transmitter.given ≡ (meaning start.at).transmitter.given ++ taken list
   -- and lsr() told of every error
   pub errors : ErrorsShown (meaning start.at).receiver.counts list states
 
@@ -155,9 +156,9 @@ pub record SameCalls (before after : List Entry) : Type 0 where
   pub each : (i : ℕ) (e : Entry) → i < length before → SameCall (slice_index_or before i e).call (slice_index_or after i e).call
 
 -- an init and, where it was accepted, a list of calls: what it left of the list, and its answer
-pub data Outcome {S : Type 0} (d : Device S) (meaning : S → ChipState) (c : Config) (budget : ℕ) (s t : S) (k l : Kept) (before after : List Entry) :
+pub data Outcome {S : Type 0} (d : Device S) (meaning : S → ChipState) (c : Config) (budget : ℕ) (old new : Uart16550 S) (before after : List Entry) :
     Option Refusal → ℕ → Type 0 where
   -- init was refused: the calls were not made
-  refused : (x : Refusal) (n : ℕ) → Ran d (Initialised c budget k (Some x) n l) s t → after ≡ before → Outcome d meaning c budget s t k l before after (Some x) n
+  refused : (x : Refusal) (n : ℕ) → Ran d (Initialised c budget (held old) (Some x) n (held new)) old.backend new.backend → after ≡ before → Outcome d meaning c budget old new before after (Some x) n
   -- it was accepted: the law holds
-  played : (n : ℕ) → SameCalls before after → Law d meaning c budget n s t k l after → Outcome d meaning c budget s t k l before after None n
+  played : (n : ℕ) → SameCalls before after → Law d meaning c budget n old new after → Outcome d meaning c budget old new before after None n

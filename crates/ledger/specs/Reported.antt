@@ -1,5 +1,5 @@
 -- What calls reported: the bytes handed out and the bytes taken, by a call, its buffer at the end, and its answer.
-use Rattle.std.specs.Prelude.{ℕ, List, [], ◌∷◌, ◌++◌, take, Ok, Err, vec_items}
+use Rattle.std.specs.Prelude.{ℕ, List, [], ◌∷◌, ◌++◌, take, Some, None, Ok, Err, vec_items, Option}
 use Rattle.ledger.specs.declared.call.Call.{Call}
 use Rattle.ledger.specs.declared.call.Call.TheVariants as call
 use Rattle.ledger.specs.declared.call.Answer.{Answer}
@@ -7,37 +7,39 @@ use Rattle.ledger.specs.declared.call.Answer.TheVariants as answer
 use Rattle.ledger.specs.declared.call.Entry.{Entry}
 
 -- how many bytes an answer reports as moved
-abbrev pub moved : Answer → ℕ
-moved answer.Nothing = 0
-moved (answer.Byte r) = 0
-moved (answer.ReadyToReceive r) = 0
-moved (answer.Sent (Ok u)) = 1
-moved (answer.Sent (Err e)) = 0
-moved (answer.Connected r) = 0
-moved (answer.Present b) = 0
-moved (answer.Count n) = n
-moved (answer.Exact t) = t.moved
-moved (answer.Register v) = 0
-moved (answer.Divisor a b) = 0
-moved (answer.Dump v) = 0
+abbrev pub moved : Option Answer → ℕ
+moved None = 0
+moved (Some answer.Done) = 0
+moved (Some (answer.Byte r)) = 0
+moved (Some (answer.ReadyToReceive r)) = 0
+moved (Some (answer.Sent (Ok u))) = 1
+moved (Some (answer.Sent (Err e))) = 0
+moved (Some (answer.Connected r)) = 0
+moved (Some (answer.Present b)) = 0
+moved (Some (answer.Count n)) = n
+moved (Some (answer.Exact t)) = t.moved
+moved (Some (answer.Register v)) = 0
+moved (Some (answer.Divisor a b)) = 0
+moved (Some (answer.Dump v)) = 0
 
 -- the byte in the answer of a try to receive
-abbrev pub received : Answer → List ℕ
-received answer.Nothing = []
-received (answer.Byte (Ok b)) = b ∷ []
-received (answer.Byte (Err e)) = []
-received (answer.ReadyToReceive r) = []
-received (answer.Sent r) = []
-received (answer.Connected r) = []
-received (answer.Present b) = []
-received (answer.Count n) = []
-received (answer.Exact t) = []
-received (answer.Register v) = []
-received (answer.Divisor a b) = []
-received (answer.Dump v) = []
+abbrev pub received : Option Answer → List ℕ
+received None = []
+received (Some answer.Done) = []
+received (Some (answer.Byte (Ok b))) = b ∷ []
+received (Some (answer.Byte (Err e))) = []
+received (Some (answer.ReadyToReceive r)) = []
+received (Some (answer.Sent r)) = []
+received (Some (answer.Connected r)) = []
+received (Some (answer.Present b)) = []
+received (Some (answer.Count n)) = []
+received (Some (answer.Exact t)) = []
+received (Some (answer.Register v)) = []
+received (Some (answer.Divisor a b)) = []
+received (Some (answer.Dump v)) = []
 
 -- the byte of a successful try, and the first places of a receive's buffer, as many as it reports
-abbrev pub handed_by : Call → Answer → List ℕ
+abbrev pub handed_by : Call → Option Answer → List ℕ
 handed_by call.TryReceive a = received a
 handed_by (call.Receive v) a = take (moved a) (vec_items v)
 handed_by (call.ReceiveExact v n) a = take (moved a) (vec_items v)
@@ -61,7 +63,7 @@ handed_by call.DllDlm a = []
 handed_by call.Dump a = []
 
 -- the byte of a successful try, and the first places of a send's buffer, as many as it reports
-abbrev pub taken_by : Call → Answer → List ℕ
+abbrev pub taken_by : Call → Option Answer → List ℕ
 taken_by call.TryReceive a = []
 taken_by (call.Receive v) a = []
 taken_by (call.ReceiveExact v n) a = []

@@ -33,8 +33,8 @@ pub enum Call {
 /// What a call answered.
 #[derive(Clone, Copy)]
 pub enum Answer {
-    /// Nothing yet, or a call that answers nothing.
-    Nothing,
+    /// The call was made, and answers nothing.
+    Done,
     Byte(Result<u8, ByteReceiveError>),
     ReadyToReceive(Result<(), ByteReceiveError>),
     Sent(Result<(), ByteSendError>),
@@ -53,5 +53,5 @@ pub struct Entry {
     /// The call; its buffer, if it has one, is looked at when the call has ended.
     pub call: Call,
     /// The answer, once the call was made.
-    pub answer: Answer,
+    pub answer: Option<Answer>,
 }

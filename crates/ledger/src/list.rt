@@ -1,6 +1,5 @@
 //! Playing calls.
 
-ghost use Rattle.driver.specs.Kept.{kept};
 ghost use Rattle.ledger.specs.Did.{Did};
 ghost use Rattle.backends.specs.Chip.{ChipState};
 ghost use Rattle.ledger.specs.Law.{Played, SameCalls, Outcome};
@@ -16,7 +15,7 @@ use registers::error::InitError;
 
 /// Makes one call; its buffer is filled in place.
 pub fn perform<B: Backend>(uart: &mut Uart16550<B>, call: &mut Call) -> Answer
-    ensures { Did B.device uart.old.backend uart.new.backend (kept uart.old) (kept uart.new) call.old call.new result }
+    ensures { Did B.device uart.old uart.new call.old call.new (Some result) }
 {
     match call {
         Call::TryReceive => Answer::Byte(uart.try_receive_byte()),
@@ -33,11 +32,11 @@ pub fn perform<B: Backend>(uart: &mut Uart16550<B>, call: &mut Call) -> Answer
         Call::CheckPresent => Answer::Present(uart.check_present()),
         Call::EnableInterrupts(flags) => {
             uart.enable_interrupts(*flags);
-            Answer::Nothing
+            Answer::Done
         }
         Call::DisableInterrupts(flags) => {
             uart.disable_interrupts(*flags);
-            Answer::Nothing
+            Answer::Done
         }
         Call::Ier => Answer::Register(uart.ier()),
         Call::Isr => Answer::Register(uart.isr()),
@@ -64,7 +63,7 @@ pub fn play<C: Chip>(
     budget: u16,
     calls: &mut [Entry],
 ) -> Waited<Result<(), InitError>>
-    ensures { Outcome C.Backend.device C.Chip.meaning config budget uart.old.backend uart.new.backend (kept uart.old) (kept uart.new) calls.old calls.new (verdict init_refusal result.result) result.fruitless }
+    ensures { Outcome C.Backend.device C.Chip.meaning config budget uart.old uart.new calls.old calls.new (verdict init_refusal result.result) result.fruitless }
 {
     let answer = uart.init(config, budget);
     if let Ok(()) = answer.result {
@@ -76,9 +75,9 @@ pub fn play<C: Chip>(
 /// Makes the calls one after the other.
 fn play_all<C: Chip>(uart: &mut Uart16550<C>, calls: &mut [Entry])
     ensures same { SameCalls calls.old calls.new }
-    ensures played { (ms : List ChipState) × Played C.Backend.device C.Chip.meaning uart.old.backend (kept uart.old) calls.new ms uart.new.backend (kept uart.new) }
+    ensures played { (ms : List ChipState) × Played C.Backend.device C.Chip.meaning uart.old calls.new ms uart.new }
 {
     for entry in calls.iter_mut() {
-        entry.answer = perform(uart, &mut entry.call);
+        entry.answer = Some(perform(uart, &mut entry.call));
     }
 }

@@ -7,7 +7,7 @@ pub returns-in-Ok : goal.returns-in-Ok
 returns-in-Ok g c =
     let p = c.play_all.ensures.played in
     rw c.in-Ok.is (played c.init-answer.result.fruitless c.play_all.ensures.same
-    (whole g.C.Backend.device g.C.Chip.meaning g.met.C.Chip.keeps c.args.config c.args.budget c.init-answer.result.fruitless _ _ _ _ _ _ _ p.0
+    (whole g.C.Backend.device g.C.Chip.meaning g.met.C.Chip.keeps c.args.config c.args.budget c.init-answer.result.fruitless _ _ _ _ p.0
     (rw c.in-Ok.is at c.init-answer.ensures) p.1))
 
 pub returns-in_default : goal.returns-in_default

@@ -1,4 +1,4 @@
-use Rattle.std.proofs.Common.{◌≡◌, ◌<◌, ◌≢◌, [], ◌∷◌, ◌++◌, length, get_or, set, sym, refl, ◌∙◌, subst, ⊎_elim, arith, get_or-set_other, get_or-set_same}
+use Rattle.std.proofs.Common.{◌≡◌, ◌<◌, ◌≢◌, [], ◌∷◌, ◌++◌, length, get_or, set, Some, sym, refl, ◌∙◌, subst, ⊎_elim, arith, get_or-set_other, get_or-set_same}
 use Rattle.std.proofs.lemmas.Bool.{cases_lt}
 use Rattle.ledger.specs.declared.call.Entry.{Entry}
 use Rattle.ledger.specs.Did.{SameCall}
@@ -8,20 +8,20 @@ use Rattle.ledger.proofs.Same.{same_call}
 use Rattle.ledger.proofs.list.play_all.Goals as goal
 
 pub loop-entry-init : goal.loop-entry-init
-loop-entry-init g c = (([], (refl, refl)), (λ i e h. absurd (omega arith)), (λ i e h. refl))
+loop-entry-init g c = (([], refl), (λ i e h. absurd (omega arith)), (λ i e h. refl))
 
 pub loop-entry-preserved : goal.loop-entry-preserved
 loop-entry-preserved g c =
     let i = c.loop-entry.invariant in
     let xs = c.loop-entry.calls in
     let n = c.loop-entry.entry-index in
-    let y : Entry = record { call = c.perform-entry.new.call; answer = c.perform-entry.result } in
+    let y : Entry = record { call = c.perform.new.call; answer = Some c.perform.result } in
     let x = get_or xs n c.entry-item.result in
     let h : n < length xs = omega (arith, c.loop-entry.auto.calls) in
-    let m = same_call g.C.Backend.device _ _ _ _ _ _ _ c.perform-entry.ensures in (
+    let m = same_call g.C.Backend.device _ _ _ _ _ c.perform.ensures in (
       (
-        i.0.0 ++ (g.C.Chip.meaning c.perform-entry.new.uart.backend ∷ []),
-        rw (take_more_set xs n y h) (played_push g.C.Backend.device g.C.Chip.meaning _ _ _ _ _ _ _ i.0.0 _ y i.0.1 c.perform-entry.ensures),
+        i.0.0 ++ (g.C.Chip.meaning c.perform.new.uart.backend ∷ []),
+        rw (take_more_set xs n y h) (played_push g.C.Backend.device g.C.Chip.meaning _ _ _ _ i.0.0 _ y i.0.1 c.perform.ensures),
       ),
       (λ j e l. ⊎_elim
           (λ k. let ne : j ≢ n = omega arith in subst (λ z. SameCall (get_or c.args.calls.now j e).call z.call) (sym (get_or-set_other xs n j y e ne)) (i.1 j e k))

@@ -7,7 +7,7 @@ use Rattle.driver.proofs.Looping.{drain_more, got_miss, done, one_drained}
 use Rattle.driver.proofs.uart.Uart16550.drain.Goals as goal
 
 pub loop-budget-init : goal.loop-budget-init
-loop-budget-init g c = ([], no_tries g.B.Backend.device _ _, refl, omega arith, c.requires, refl)
+loop-budget-init g c = ([], no_tries, refl, omega arith, c.requires, refl)
 
 pub loop-budget-preserved : goal.loop-budget-preserved
 loop-budget-preserved g c =
@@ -15,7 +15,7 @@ loop-budget-preserved g c =
     let q = c.in-Ok.ensures in
     let m = drain_more i.0 q.status c.in-Ok.field-0 i.2 in (
       i.0 ++ (took q.status c.in-Ok.field-0 ∷ []),
-      made_append g.B.Backend.device _ _ _ _ _ _ i.0 _ i.1 q.made,
+      made_append i.1 q.made,
       m.0,
       omega (arith, m.1),
       omega (arith, c.in_ok-spend.ensures.answer),
@@ -33,9 +33,9 @@ returns-in_err-spend g c =
     rw (e.1, e.2, b.0) (record {
       limit = omega arith;
       room = tt;
-      drained = done g.B.Backend.device _ _ _ _ (drained us ∷ []) _ _ _
-          (one_drained g.B.Backend.device _ _ _ _ us (made_append g.B.Backend.device _ _ _ _ _ _ i.0 _ i.1 q.made))
-          (flooded us (made_append g.B.Backend.device _ _ _ _ _ _ i.0 _ i.1 q.made).sound m.0 (omega (arith, m.1, b.1))) (omega (arith, m.1));
+      drained = done
+          (one_drained (made_append i.1 q.made))
+          (flooded us (made_append i.1 q.made).sound m.0 (omega (arith, m.1, b.1))) (omega (arith, m.1));
     })
 
 pub returns : goal.returns
@@ -46,7 +46,7 @@ returns g c =
     record {
       limit = omega arith;
       room = omega arith;
-      drained = done g.B.Backend.device _ _ _ _ (drained us ∷ []) _ _ _
-          (one_drained g.B.Backend.device _ _ _ _ us (made_append g.B.Backend.device _ _ _ _ _ _ i.0 _ i.1 q.made))
-          (emptied i.0 q.status (made_append g.B.Backend.device _ _ _ _ _ _ i.0 _ i.1 q.made).sound i.2 (omega arith)) (omega (arith, got_miss i.0 q.status));
+      drained = done
+          (one_drained (made_append i.1 q.made))
+          (emptied i.0 q.status (made_append i.1 q.made).sound i.2 (omega arith)) (omega (arith, got_miss i.0 q.status));
     }

@@ -10,7 +10,7 @@ returns-in_err-send_all g c =
     rw (e.1, e.2) (record {
       limit = q.limit;
       room = tt;
-      echoed = echo_cut g.B.Backend.device _ _ _ _ c.args.bytes.now c.args.budget.now.limit _ _ _ _ _ (rw c.in_err-send_all.was at q.sent) q.spent;
+      echoed = echo_cut c.args.budget.now.limit (rw c.in_err-send_all.was at q.sent) q.spent;
     })
 
 pub fill-requires : goal.fill-requires
@@ -29,5 +29,5 @@ returns g c =
     record {
       limit = r.limit ∙ q.limit;
       room = fills_within _ _ c.args.budget.now.limit _ _ _ _ _ r.filled.fills r.filled.counted r.spent w (omega (arith, q.limit));
-      echoed = echo_whole g.B.Backend.device _ _ _ _ c.args.bytes.now c.args.budget.now.limit _ _ _ _ _ _ _ _ _ _ _ z q.spent r.filled r.spent q.limit c.requires.lengths;
+      echoed = echo_whole c.args.budget.now.limit z q.spent r.filled r.spent q.limit c.requires.lengths;
     }

@@ -7,7 +7,7 @@ use Rattle.driver.proofs.uart.Uart16550.echo_message.Given as goal
 -- the bytes so far came back
 abbrev pub invariant-loop-i : goal.invariant-loop-i
 invariant-loop-i g l =
-    Done g.B.Backend.device l.initial.self.backend l.self.backend (kept l.initial.self) (kept l.self)
+    Done g.B.Backend.device l.initial.self l.self
     (λ ps. Singly (settings (kept l.initial.self)) (l.initial.budget.limit - l.initial.budget.fruitless) l.i None ps
     × (length (back ps) ≡ l.i) × (l.back ≡ filled (back ps) l.initial.back))
     l.initial.budget.fruitless l.budget.fruitless

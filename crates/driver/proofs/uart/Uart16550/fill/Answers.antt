@@ -6,7 +6,7 @@ use Rattle.driver.proofs.Filling.{exactly_more, exactly_cut, waited_got, waited_
 use Rattle.driver.proofs.uart.Uart16550.fill.Goals as goal
 
 pub loop-moved-init : goal.loop-moved-init
-loop-moved-init g c = ([], no_tries g.B.Backend.device _ _, no_room refl, refl, refl, omega arith, c.requires, refl)
+loop-moved-init g c = ([], no_tries, no_room refl, refl, refl, omega arith, c.requires, refl)
 
 pub loop-moved-preserved : goal.loop-moved-preserved
 loop-moved-preserved g c =
@@ -16,7 +16,7 @@ loop-moved-preserved g c =
     let l = waited_in_time _ _ _ _ w.1 in
     let p = place_more c.args.buffer.now c.loop-moved.buffer i.0 w.0 c.loop-moved.moved c.in-Ok.byte i.3 i.4 (waited_got _ _ _ _ _ w.1) (omega arith) in (
       i.0 ++ w.0,
-      made_append g.B.Backend.device _ _ _ _ _ _ i.0 w.0 i.1 w.2,
+      made_append i.1 w.2,
       exactly_more _ _ _ _ i.0 w.0 _ (omega arith) i.3 (omega arith) w.1,
       p.0,
       p.1,
@@ -33,7 +33,7 @@ returns-in-Err-clause-filled g c =
     let p = place_same c.args.buffer.now c.loop-moved.buffer i.0 w.0 c.loop-moved.moved 0 i.3 i.4 (waited_got _ _ _ _ _ w.1) in
     rw c.transferred.ensures (record {
       ts = i.0 ++ w.0;
-      made = made_append g.B.Backend.device _ _ _ _ _ _ i.0 w.0 i.1 w.2;
+      made = made_append i.1 w.2;
       fills = exactly_cut _ _ _ _ _ i.0 w.0 _ (omega arith) (omega arith) (omega arith) w.1;
       buffer = set-get_or c.loop-moved.buffer c.loop-moved.moved 0 ∙ p.1;
       counted = omega (arith, w.3);

@@ -35,14 +35,14 @@ returns-then-contains g c =
 
 pub returns-then-not-contains-2 : goal.returns-then-not-contains-2
 returns-then-not-contains-2 g c =
-    asked_lines g.B.Backend.device _ _ _ _ _ _ _ c.read_lsr.result c.read.result c.read_msr.result _ c.read_lsr.ensures.accesses
+    asked_lines _ c.read_lsr.result c.read.result c.read_msr.result c.read_lsr.ensures.accesses
     (runs_read g.B.Backend.device 4 c.read.result _ _ c.read.ensures.value c.read.ensures.state) c.read_msr.ensures.accesses c.read_lsr.ensures.keeps c.read_msr.ensures.keeps
     (not_clear _ _ _ (sym (ap (λ k. k.config.check_cts_before_sending) c.read_lsr.ensures.keeps) ∙ c.if-not-self.false) (sym c.contains.ensures ∙ c.if-not-contains.false)
     (sym c.contains-2.ensures ∙ c.if-contains.false) (sym c.contains-3.ensures ∙ c.if-not-contains-2.true))
 
 pub returns : goal.returns
 returns g c =
-    asked_lines g.B.Backend.device _ _ _ _ _ _ _ c.read_lsr.result c.read.result c.read_msr.result _ c.read_lsr.ensures.accesses
+    asked_lines _ c.read_lsr.result c.read.result c.read_msr.result c.read_lsr.ensures.accesses
     (runs_read g.B.Backend.device 4 c.read.result _ _ c.read.ensures.value c.read.ensures.state) c.read_msr.ensures.accesses c.read_lsr.ensures.keeps c.read_msr.ensures.keeps
     (clear _ _ _ (sym (ap (λ k. k.config.check_cts_before_sending) c.read_lsr.ensures.keeps) ∙ c.if-not-self.false) (sym c.contains.ensures ∙ c.if-not-contains.false)
     (sym c.contains-2.ensures ∙ c.if-contains.false) (sym c.contains-3.ensures ∙ c.if-not-contains-2.false))

@@ -6,17 +6,17 @@ use Rattle.driver.proofs.Filling.{fill_more, fill_short}
 use Rattle.driver.proofs.uart.Uart16550.receive_bytes.Goals as goal
 
 pub loop-count-init : goal.loop-count-init
-loop-count-init g c = ([], no_tries g.B.Backend.device _ _, refl, refl, refl)
+loop-count-init g c = ([], no_tries, refl, refl, refl)
 
 pub returns-in_default : goal.returns-in_default
 returns-in_default g c =
     let i = c.loop-count.invariant in
-    fill_short g.B.Backend.device _ _ _ _ _ _ i.0 c.loop-count.count i.1 i.3 i.4 _ _ _ _ c.in_default.ensures i.2 (omega arith) (set-get_or c.loop-count.buffer c.loop-count.count 0) refl
+    fill_short c.loop-count.count i.1 i.3 i.4 c.in_default.ensures i.2 (omega arith) (set-get_or c.loop-count.buffer c.loop-count.count 0) refl
 
 pub loop-count-preserved : goal.loop-count-preserved
 loop-count-preserved g c =
     let i = c.loop-count.invariant in
-    fill_more g.B.Backend.device _ _ _ _ _ _ i.0 c.loop-count.count i.1 i.3 i.4 _ _ _ c.in-Ok.ensures i.2 (omega arith)
+    fill_more c.loop-count.count i.1 i.3 i.4 c.in-Ok.byte c.in-Ok.ensures i.2 (omega arith)
 
 pub returns : goal.returns
 returns g c =

@@ -6,14 +6,14 @@ use Rattle.driver.proofs.Filling.{still_none, one_miss_more, no_miss_more}
 use Rattle.driver.proofs.uart.Uart16550.receive_waiting.Goals as goal
 
 pub loop-byte-init : goal.loop-byte-init
-loop-byte-init g c = ([], no_tries g.B.Backend.device _ _, refl, omega arith, c.requires, refl)
+loop-byte-init g c = ([], no_tries, refl, omega arith, c.requires, refl)
 
 pub loop-byte-preserved : goal.loop-byte-preserved
 loop-byte-preserved g c =
     let i = c.loop-byte.invariant in
     let q = c.in_default.ensures in (
       i.0 ++ (missed q.status ∷ []),
-      made_append g.B.Backend.device _ _ _ _ _ _ i.0 _ i.1 q.made,
+      made_append i.1 q.made,
       still_none i.0 q.status i.2,
       omega (arith, one_miss_more i.0 q.status),
       omega (arith, c.in_ok-spend.ensures.answer),
@@ -31,7 +31,7 @@ returns-in_err-spend g c =
       waited = (
         i.0 ++ (missed q.status ∷ []),
         late i.0 q.status (omega (arith, b.1)) i.2,
-        made_append g.B.Backend.device _ _ _ _ _ _ i.0 _ i.1 q.made,
+        made_append i.1 q.made,
         omega (arith, one_miss_more i.0 q.status),
       );
     })
@@ -46,7 +46,7 @@ returns-in-Ok g c =
       waited = (
         i.0 ++ (took q.status b ∷ []),
         came i.0 q.status b (omega arith) i.2,
-        made_append g.B.Backend.device _ _ _ _ _ _ i.0 _ i.1 q.made,
+        made_append i.1 q.made,
         omega (arith, no_miss_more i.0 q.status b),
       );
     }

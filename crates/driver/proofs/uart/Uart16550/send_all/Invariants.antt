@@ -6,7 +6,7 @@ use Rattle.driver.proofs.uart.Uart16550.send_all.Given as goal
 -- the bytes so far were taken, from the front
 abbrev pub invariant-loop-moved : goal.invariant-loop-moved
 invariant-loop-moved g l = (tried : List Attempt)
-    × Made g.B.Backend.device l.initial.self.backend l.self.backend (kept l.initial.self) (kept l.self) tried
+    × Made g.B.Backend.device l.initial.self l.self tried
     × Attempts (kept l.initial.self) l.bytes tried
     × (l.moved ≡ length (taken tried))
     × (l.moved ≤ length l.bytes)

@@ -8,12 +8,12 @@ use Rattle.driver.proofs.Sending.{writes_append, sent_nothing, sent_refused, sen
 use Rattle.driver.proofs.uart.Uart16550.send_bytes.Goals as goal
 
 pub returns-then-is_empty : goal.returns-then-is_empty
-returns-then-is_empty g c = sent_nothing g.B.Backend.device _ _ _ _ _ (eqb-true _ _ (sym c.if-is_empty.ensures)) refl refl
+returns-then-is_empty g c = sent_nothing (eqb-true _ _ (sym c.if-is_empty.ensures)) refl refl
 
 pub returns-in_default : goal.returns-in_default
 returns-in_default g c =
     let e = eqb-false _ _ (sym c.if-is_empty.ensures) in
-    sent_refused g.B.Backend.device _ _ _ _ _ _ (omega arith) c.in_default.ensures
+    sent_refused (omega arith) c.in_default.ensures
 
 pub loop-byte-init : goal.loop-byte-init
 loop-byte-init g c = (refl, refl)
@@ -32,5 +32,5 @@ loop-byte-preserved g c =
 pub returns : goal.returns
 returns g c =
     let e = eqb-false _ _ (sym c.if-is_empty.ensures) in
-    sent_some g.B.Backend.device _ _ _ _ _ _ _ c.min-count.result c.loop-byte.byte-index c.burst.result (omega arith) c.in-Ok.ensures c.loop-byte.invariant.1
+    sent_some c.min-count.result c.loop-byte.byte-index c.burst.result (omega arith) c.in-Ok.ensures c.loop-byte.invariant.1
     c.burst.ensures c.min-count.ensures c.loop-byte-test.false c.loop-byte.invariant.0

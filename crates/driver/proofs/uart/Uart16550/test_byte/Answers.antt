@@ -7,7 +7,7 @@ pub returns-in_err-try_send_byte : goal.returns-in_err-try_send_byte
 returns-in_err-try_send_byte g c =
     let e = err_from_is_err_and c.from_residual.result c.from_residual.ensures.1 in
     let q = c.in_err-try_send_byte.ensures in
-    rw (e.1, e.2) (record { limit = refl; room = tt; tested = byte_refused g.B.Backend.device _ _ _ _ _ _ _ q.answer q.sent })
+    rw (e.1, e.2) (record { limit = refl; room = tt; tested = byte_refused q.answer q.sent })
 
 pub returns-in_err-byte : goal.returns-in_err-byte
 returns-in_err-byte g c =
@@ -17,7 +17,7 @@ returns-in_err-byte g c =
     rw (e.1, e.2) (record {
       limit = r.limit;
       room = tt;
-      tested = byte_late g.B.Backend.device _ _ _ _ _ _ q.sent _ _ _ r.waited.0 r.waited.2 r.waited.3 _ r.waited.1;
+      tested = byte_late q.sent r.waited.2 r.waited.3 r.waited.1;
     })
 
 pub returns-then-byte-mask : goal.returns-then-byte-mask
@@ -27,7 +27,7 @@ returns-then-byte-mask g c =
     record {
       limit = r.limit;
       room = tt;
-      tested = byte_other g.B.Backend.device _ _ _ _ _ _ q.sent _ _ _ r.waited.0 r.waited.2 r.waited.3 c.in_ok-byte.byte c.mask_of-mask.result c.mask_of-mask.ensures
+      tested = byte_other q.sent r.waited.2 r.waited.3 c.in_ok-byte.byte c.mask_of-mask.result c.mask_of-mask.ensures
           r.waited.1 c.if-byte-mask.true;
     }
 
@@ -38,6 +38,6 @@ returns g c =
     record {
       limit = r.limit;
       room = waited_within _ _ _ _ _ r.waited.0 _ r.waited.1 r.waited.3 c.requires refl;
-      tested = byte_same g.B.Backend.device _ _ _ _ _ _ q.sent _ _ _ r.waited.0 r.waited.2 r.waited.3 c.in_ok-byte.byte c.mask_of-mask.result c.mask_of-mask.ensures
+      tested = byte_same q.sent r.waited.2 r.waited.3 c.in_ok-byte.byte c.mask_of-mask.result c.mask_of-mask.ensures
           r.waited.1 c.if-byte-mask.false;
     }

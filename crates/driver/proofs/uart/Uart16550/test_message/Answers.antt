@@ -8,14 +8,14 @@ use Rattle.driver.proofs.uart.Uart16550.test_message.Goals as goal
 pub returns-in_err-echo_message : goal.returns-in_err-echo_message
 returns-in_err-echo_message g c =
     let e = err_from_is_err_and c.from_residual.result c.from_residual.ensures.1 in
-    rw (e.1, e.2) (done_as g.B.Backend.device _ _ _ _ _ _ _ _ c.in_err-echo_message.ensures (λ ps p. cut_off _ ps p.0))
+    rw (e.1, e.2) (done_as c.in_err-echo_message.ensures (λ ps p. cut_off _ ps p.0))
 
 pub returns-then-not-same_bits : goal.returns-then-not-same_bits
 returns-then-not-same_bits g c =
-    other_came g.B.Backend.device _ _ _ _ _ _ _ c.mask_of-bits.result _ _ c.in_ok-echo_message.ensures c.mask_of-bits.ensures
+    other_came c.mask_of-bits.result c.in_ok-echo_message.ensures c.mask_of-bits.ensures
     (λ e. let z = c.if-not-same_bits.ensures.1 (each_from_masked _ c.echo_message.new.back test_message (omega arith) e) in cc)
 
 pub returns : goal.returns
 returns g c =
-    same_came g.B.Backend.device _ _ _ _ _ _ _ c.mask_of-bits.result _ _ c.in_ok-echo_message.ensures c.mask_of-bits.ensures
+    same_came c.mask_of-bits.result c.in_ok-echo_message.ensures c.mask_of-bits.ensures
     (masked_from_each _ c.echo_message.new.back test_message (omega arith) (c.if-not-same_bits.ensures.0 refl))

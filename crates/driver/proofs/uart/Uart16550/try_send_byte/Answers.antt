@@ -1,5 +1,4 @@
 use Rattle.std.proofs.Common.{◌≡◌, [], ◌∷◌, refl, subst, arith}
-use Rattle.driver.specs.Kept.{kept}
 use Rattle.driver.specs.Sends.{Sent}
 use Rattle.driver.proofs.Attempting.{taken_within}
 use Rattle.driver.proofs.uart.Uart16550.try_send_byte.Goals as goal
@@ -11,6 +10,6 @@ returns-in_default g c =
     let h = taken_within _ _ p.tried p.sound in
     let e : c.send_bytes.result ≡ 1 = omega (arith, h, p.answer) in
     record {
-      sent = subst (λ n. Sent g.B.Backend.device c.args.self.now.backend c.send_bytes.new.self.backend (kept c.args.self.now) (kept c.send_bytes.new.self) (c.args.byte ∷ []) n) e p;
+      sent = subst (λ n. Sent g.B.Backend.device c.args.self.now c.send_bytes.new.self (c.args.byte ∷ []) n) e p;
       answer = refl;
     }

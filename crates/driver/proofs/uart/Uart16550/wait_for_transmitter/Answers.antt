@@ -7,8 +7,8 @@ pub loop-budget-preserved : goal.loop-budget-preserved
 loop-budget-preserved g c = (
   omega (arith, c.in_ok-spend.ensures.answer),
   omega arith,
-  still_busy g.B.Backend.device _ _ _ _ _ _ _ _ c.read_lsr.result c.loop-budget.invariant.2 c.read_lsr.ensures.accesses
-      c.read_lsr.ensures.keeps (sym c.contains.ensures ∙ c.loop-budget-test.true) _ c.spend.ensures.counted,
+  still_busy c.read_lsr.result c.loop-budget.invariant.2 c.read_lsr.ensures.accesses
+      c.read_lsr.ensures.keeps (sym c.contains.ensures ∙ c.loop-budget-test.true) c.spend.ensures.counted,
 )
 
 pub returns-in_err-spend : goal.returns-in_err-spend
@@ -20,8 +20,8 @@ returns-in_err-spend g c =
       answer = (
         q.0,
         omega (arith, q.1),
-        still_busy g.B.Backend.device _ _ _ _ _ _ _ _ c.read_lsr.result c.loop-budget.invariant.2 c.read_lsr.ensures.accesses
-            c.read_lsr.ensures.keeps (sym c.contains.ensures ∙ c.loop-budget-test.true) _ c.spend.ensures.counted,
+        still_busy c.read_lsr.result c.loop-budget.invariant.2 c.read_lsr.ensures.accesses
+            c.read_lsr.ensures.keeps (sym c.contains.ensures ∙ c.loop-budget-test.true) c.spend.ensures.counted,
       );
     })
 
@@ -30,7 +30,7 @@ returns g c = record {
   limit = c.loop-budget.invariant.1;
   answer = (
     omega arith,
-    now_empty g.B.Backend.device _ _ _ _ _ _ _ _ c.read_lsr.result c.loop-budget.invariant.2 c.read_lsr.ensures.accesses
+    now_empty c.read_lsr.result c.loop-budget.invariant.2 c.read_lsr.ensures.accesses
         c.read_lsr.ensures.keeps (sym c.contains.ensures ∙ c.loop-budget-test.false),
   );
 }
