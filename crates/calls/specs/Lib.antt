@@ -1,3 +1,2 @@
-pub mod Transcript
 pub mod Landing
 pub mod Hex

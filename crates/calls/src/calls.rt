@@ -1,13 +1,15 @@
 //! Calls on a driver: each line is one call.
 
 use crate::line::{Answered, Line};
-use crate::transcript::Transcript;
 use crate::{looks, setups, transfers};
-use backends::Script;
+use backends::{Recording, Script};
 use driver::Uart16550;
 
+/// How many accesses of a call are kept.
+pub const ROOM: usize = 1024;
+
 /// A driver over a scripted device whose accesses are recorded.
-pub type Device<'a> = Uart16550<Transcript<Script<'a>>>;
+pub type Device<'a> = Uart16550<Recording<Script<'a>, ROOM>>;
 
 /// Plays the call of the line.
 pub fn answer(device: &mut Device<'_>, line: &mut Line<'_>) -> Answered {

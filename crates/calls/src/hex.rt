@@ -21,10 +21,7 @@ fn digit(character: u8) -> Option<u8>
 pub fn byte_of(high: u8, low: u8) -> Option<u8>
     ensures { MatchOption result ((b : ℕ) → ¬ Writes high low b) (Writes high low) }
 {
-    match (digit(high), digit(low)) {
-        (Some(high), Some(low)) => Some(high * 16 + low),
-        _ => None,
-    }
+    Some(digit(high)? * 16 + digit(low)?)
 }
 
 /// The bytes that a word writes: two digits each, or `-` for none.

@@ -19,7 +19,6 @@ mod refusals;
 mod setups;
 mod show;
 mod tables;
-mod transcript;
 mod transfers;
 mod values;
 mod words;

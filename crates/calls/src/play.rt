@@ -1,14 +1,13 @@
 //! The lines of a text, one after another.
 
-use crate::calls::Device;
+use crate::calls::{Device, ROOM};
 use crate::fault::Fault;
 use crate::line::Line;
 use crate::show::Accesses;
-use crate::transcript::Transcript;
 use crate::values::{Flag, Octet};
 use crate::words::Words;
 use crate::{calls, questions};
-use backends::Script;
+use backends::{Recording, Script};
 use driver::Uart16550;
 use std::alloc::Global;
 use std::fmt;
@@ -96,7 +95,7 @@ impl<'a> Player<'a> {
         let Some(Some(bytes)) = self.scripts.next() else {
             return Err(Fault::Malformed);
         };
-        let backend = Transcript::new(Script::new(bytes));
+        let backend = Recording::new(Script::new(bytes));
         self.device = Some(Uart16550::new_with_backend(backend));
         self.devices = self.devices.saturating_add(1);
         let count = self.devices;
@@ -126,9 +125,10 @@ impl fmt::Display for After<'_, '_> {
         let modem = Octet(device.msr_saved());
         let interrupts = Octet(device.config().interrupts);
         let fifo = Flag(device.fifo_enabled());
-        let accesses = Accesses(device.backend().recorded());
+        let log = device.backend().log();
+        let accesses = Accesses(log.recorded());
         write!(f, " | {line} {modem} {interrupts} {fifo} |{accesses}")?;
-        match device.backend().left_out() {
+        match log.count().saturating_sub(ROOM as u64) {
             0 => Ok(()),
             more => write!(f, " and {more} more"),
         }
