@@ -5,6 +5,7 @@ pub mod Reaches
 pub mod Sends
 pub mod Status
 pub mod Acts
+pub mod Rounds
 pub mod Moves
 pub mod Carries
 pub mod Single

@@ -1,5 +1,5 @@
 -- Each step of the chip keeps it sound.
-use Rattle.std.specs.Prelude.{◌≡◌, ℕ, ◌+◌, ◌≤◌, Bool, true, false, List, [], ◌∷◌, ◌++◌, length, drop, ◌==◌, nat_lt}
+use Rattle.std.specs.Prelude.{◌≡◌, ℕ, ◌+◌, ◌<◌, ◌≤◌, Bool, true, false, List, [], ◌∷◌, ◌++◌, length, drop, ◌==◌, nat_lt}
 use Rattle.std.proofs.Common.{arith, length-drop}
 use Rattle.std.proofs.lemmas.List.{length_push}
 use Rattle.std.proofs.lemmas.Bool.{ltb-true, cond_both}
@@ -14,7 +14,7 @@ use Rattle.bench.specs.declared.settings.Fifos.{Fifos}
 use Rattle.bench.specs.declared.settings.Fifos.TheVariants.{Absent, Off, On}
 use Rattle.bench.specs.Receiver.{Room, reached, taken, emptied, noticed}
 use Rattle.bench.specs.Settings.{mode, reaches_divisor, scratch_kept, with_lcr}
-use Rattle.bench.specs.Core.{accepting, come_round, turned, data_answered, answered, controlled, switched, reset, modem_controlled, data_written, interrupts_kept, written, with_receiver, with_settings, with_modem}
+use Rattle.bench.specs.Core.{accepting, come_round, reaching, turned, data_answered, answered, controlled, switched, reset, modem_controlled, data_written, interrupts_kept, written, with_receiver, with_settings, with_modem}
 use Rattle.bench.specs.Modem.{unchanged}
 use Rattle.bench.specs.Table.{entry_of}
 use Rattle.bench.specs.Sound.{one, marks, Within, Counted, Sound}
@@ -65,15 +65,15 @@ module _ (f : Character → Bool) where
   next_within n m x y cs h = omega (arith, one_more_is (f y) n)
 
 -- m characters came, and with c from the line there are m'
-abbrev pub Grows : Character → ℕ → ℕ → Type 0
+abbrev Grows : Character → ℕ → ℕ → Type 0
 Grows c m m' = (m + one c.parity ≤ m') × (m + one c.framing ≤ m') × (m + one c.broken ≤ m')
 
 -- one from the line
-pub grows_one : (c : Character) (m : ℕ) → Grows c m (m + 1)
+grows_one : (c : Character) (m : ℕ) → Grows c m (m + 1)
 grows_one c m = (omega (arith, one_most c.parity), omega (arith, one_most c.framing), omega (arith, one_most c.broken))
 
 -- one that came round bears no mark
-pub grows_none : (b m : ℕ) → Grows (unmarked b) m m
+grows_none : (b m : ℕ) → Grows (unmarked b) m m
 grows_none b m = (omega arith, omega arith, omega arith)
 
 module _ (c : Character) (m m' : ℕ) (g : Grows c m m') where
@@ -96,7 +96,7 @@ module _ (c : Character) (m m' : ℕ) (g : Grows c m m') where
   more_counted : (n : Counts) (cs : List Character) → Counted n cs m → Counted n cs m'
   more_counted n cs h = (omega arith, omega arith, omega arith)
 
-  pub reached_counted : (f : Mode) (r : Receiver) → Counted r.counts r.queue m → Counted (reached f c r).counts (reached f c r).queue m'
+  reached_counted : (f : Mode) (r : Receiver) → Counted r.counts r.queue m → Counted (reached f c r).counts (reached f c r).queue m'
   reached_counted f r h =
       let P : Receiver → Type 0 = λ q. Counted q.counts q.queue m' in
       cond_both (nat_lt (length r.queue) (capacity f)) _ _ P
@@ -117,7 +117,7 @@ taken_counted m (x ∷ y ∷ cs) n h = (
 )
 
 -- a newcomer joins where there is room, is dropped, or stands alone
-pub reached_bounded : (c : Character) (f : Mode) (r : Receiver) → length r.queue ≤ capacity f → length (reached f c r).queue ≤ capacity f
+reached_bounded : (c : Character) (f : Mode) (r : Receiver) → length r.queue ≤ capacity f → length (reached f c r).queue ≤ capacity f
 reached_bounded c f r h =
     let P : Receiver → Type 0 = λ q. length q.queue ≤ capacity f in
     cond_both (nat_lt (length r.queue) (capacity f)) _ _ P
@@ -127,14 +127,23 @@ reached_bounded c f r h =
 -- The chip itself
 
 -- the counts of a sound chip can grow
-pub sound_room : (m : ℕ) (s : Core) → m ≤ 65535 → Sound m s → Room s.receiver.counts
-sound_room m s l h = (omega arith, omega arith, omega arith)
+pub sound_room : (m : ℕ) (s : Core) → Sound m s → Room s.receiver.counts
+sound_room m s h = (omega arith, omega arith, omega arith)
 
 come_round_sound : (m : ℕ) (bs : List ℕ) (s : Core) → Sound m s → Sound m (come_round bs s)
 come_round_sound m [] s h = h
 come_round_sound m (b ∷ bs) s h = (
   reached_counted (unmarked b) m m (grows_none b m) (mode s.settings.fifos) s.receiver h.0,
   reached_bounded (unmarked b) (mode s.settings.fifos) s.receiver h.1,
+  h.2,
+)
+
+-- a character arrives from the line
+pub arrived_sound : (c : Character) (m : ℕ) (s : Core) → m < 65535 → Sound m s → Sound (m + 1) (with_receiver s (reaching s c))
+arrived_sound c m s l h = (
+  reached_counted c m (m + 1) (grows_one c m) (mode s.settings.fifos) s.receiver h.0,
+  reached_bounded c (mode s.settings.fifos) s.receiver h.1,
+  omega arith,
 )
 
 pub turned_sound : (m : ℕ) (s : Core) → Sound m s → Sound m (turned s)
@@ -142,7 +151,7 @@ turned_sound m s h = cond_both (accepting s) _ s (λ t. Sound m t) (λ _. come_r
 
 -- a read takes one character at most
 taken_sound : (m : ℕ) (s : Core) → Sound m s → Sound m (with_receiver s (taken s.receiver))
-taken_sound m s h = (taken_counted m s.receiver.queue s.receiver.counts h.0, omega (arith, length-drop 1 s.receiver.queue))
+taken_sound m s h = (taken_counted m s.receiver.queue s.receiver.counts h.0, omega (arith, length-drop 1 s.receiver.queue), h.2)
 
 pub answered_sound : (m : ℕ) (s : Core) (k : ℕ) → Sound m s → Sound m (answered s k)
 answered_sound m s k h =
@@ -150,18 +159,13 @@ answered_sound m s k h =
     (cond_both (reaches_divisor s.settings) s _ (λ t. Sound m t) (λ _. h) (λ _. taken_sound m s h))
     h h h h h h h
 
--- an emptied queue
-empty_sound : (m : ℕ) (f : Mode) (r : Receiver) → Counted r.counts r.queue m → Counted r.counts [] m × (0 ≤ capacity f)
-empty_sound m f r h = (none_counted r.counts m r.queue h, omega arith)
-
 switched_sound : (m : ℕ) (f : Fifos) (s : Core) → Sound m s → Sound m (switched f s)
-switched_sound m f s h = empty_sound m (mode f) s.receiver h.0
+switched_sound m f s h = (none_counted s.receiver.counts m s.receiver.queue h.0, omega arith, h.2)
 
 reset_sound : (m v : ℕ) (s : Core) → Sound m s → Sound m (reset v s)
 reset_sound m v s h =
     cond_both (contains v rx_fifo_reset) (emptied s.receiver) s.receiver
-    (λ r. Counted r.counts r.queue m × (length r.queue ≤ capacity (mode s.settings.fifos)))
-    (λ _. empty_sound m (mode s.settings.fifos) s.receiver h.0) (λ _. h)
+    (λ r. Sound m (with_receiver s r)) (λ _. (none_counted s.receiver.counts m s.receiver.queue h.0, omega arith, h.2)) (λ _. h)
 
 controlled_sound : (m : ℕ) (f : Fifos) (v : ℕ) (s : Core) → Sound m s → Sound m (controlled f v s)
 controlled_sound m Absent v s h = h

@@ -11,11 +11,9 @@ pub mod Pace
 pub mod Core
 pub mod Sound
 pub mod Kept
-pub mod Parts
-pub mod Ticks
 pub mod Meaning
-pub mod Bench
 pub mod Making
-pub mod Wired
-pub mod Plug
+pub mod State
+pub mod TapeAndLine
+pub mod Cable
 pub mod Keeping

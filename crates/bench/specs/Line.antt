@@ -1,16 +1,20 @@
 -- The line that takes what leaves.
-use Rattle.std.specs.Prelude.{ℕ, ◌+◌, min, Bool, List, take, vec_items, vec_len, nat_lt}
-use Rattle.std.specs.Vec.{with_item}
-use Rattle.bench.specs.declared.line.Line.{Line}
+use Rattle.std.specs.Prelude.{ℕ, min, Bool, List, [], ◌∷◌, ◌++◌, length, nat_lt}
 
--- one byte more can leave
+pub record Line : Type 0 where
+  -- what left, in its order
+  pub gone : List ℕ
+  -- how long the store is
+  pub space : ℕ
+
+-- nothing has left
+abbrev pub empty_line : ℕ → Line
+empty_line n = record { gone = []; space = n }
+
+-- one byte more can leave: 65,535 at most
 abbrev pub room : Line → Bool
-room l = nat_lt l.left (min (vec_len l.store) 65535)
+room l = nat_lt (length l.gone) (min l.space 65535)
 
 -- a byte leaves
-unfoldable pub written : Line → ℕ → Line
-written l b = record { store = with_item l.store l.left b; left = l.left + 1 }
-
--- what left, in its order
-abbrev pub gone : Line → List ℕ
-gone l = take l.left (vec_items l.store)
+abbrev pub written : Line → ℕ → Line
+written l b = record { gone = l.gone ++ b ∷ []; space = l.space }

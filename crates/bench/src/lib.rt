@@ -2,23 +2,22 @@
 
 #![tactic(auto)]
 
-mod bench;
+mod cable;
 mod chip_core;
 mod flag;
+mod joined;
 mod line;
 mod modem;
 mod pace;
-mod parts;
-mod plug;
 mod receiver;
 mod ring;
 mod settings;
+mod simulated;
 mod tape;
+mod tape_and_line;
 mod transmitter;
-mod wired;
 
-pub use crate::bench::Bench;
-pub use crate::bench::making::BenchOptions;
-pub use crate::plug::Plug;
+pub use crate::simulated::bench::{Bench, BenchOptions};
+pub use crate::simulated::plug::Plug;
 pub use modem::ModemLines;
 pub use tape::TapeEntry;

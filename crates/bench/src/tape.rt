@@ -1,9 +1,10 @@
 //! The tape: what will arrive, and when.
 
-ghost use Rattle.std.specs.Prelude.{◌≡◌, ℕ, ◌≤◌, true, take, vec_len};
-ghost use Rattle.bench.specs.Tape.{over as past, older, advanced, entry as coming};
+ghost use Rattle.std.specs.Prelude.{◌≡◌, ℕ, ◌≤◌, true, take, drop, vec_len};
+ghost use Rattle.bench.specs.Tape.{Tape as Played, unplayed, over as past, older, Advances};
 
 use backends::Character;
+use std::marker::Model;
 
 /// A character that arrives on the `gap`-th access after the one before it, or after the making of
 /// the chip; with gap 0 on the same access.
@@ -19,12 +20,32 @@ pub struct TapeEntry {
 /// most 255. The first 65,535 entries are in use.
 #[derive(Drop)]
 pub struct Tape {
-    pub entries: Vec<TapeEntry>,
-    pub next: u16,
-    pub since: u8,
+    entries: Vec<TapeEntry>,
+    next: u16,
+    since: u8,
+}
+
+// Clauses see what has arrived, and what stands behind it.
+impl Model for Tape {
+    ghost Value = { Played };
+
+    ghost view = { λ t. record { came = take t.next t.entries.items; coming = drop t.next t.entries.items; since = t.since } };
+
+    ghost invariant = { λ t. t.next ≤ vec_len t.entries };
 }
 
 impl Tape {
+    /// A tape of which nothing has arrived.
+    pub fn new(entries: Vec<TapeEntry>) -> Tape
+        ensures { result ≡ unplayed entries.items }
+    {
+        Tape {
+            entries,
+            next: 0,
+            since: 0,
+        }
+    }
+
     /// One access more has passed.
     pub fn age(&mut self)
         ensures { self.new ≡ older self.old }
@@ -45,8 +66,7 @@ impl Tape {
     /// Gives the next character, and goes on behind it.
     pub fn advance(&mut self) -> Character
         requires { past self.old ≡ true }
-        ensures value { result ≡ (coming self.old).character }
-        ensures state { self.new ≡ advanced self.old }
+        ensures { Advances self.old.coming self.old result self.new }
     {
         let entry = self.entries[self.next as usize];
         self.next += 1;
@@ -56,8 +76,7 @@ impl Tape {
 
     /// The entries that have arrived, in their order.
     pub fn arrived(&self) -> &[TapeEntry]
-        requires { self.now.next ≤ vec_len self.now.entries }
-        ensures { result.now ≡ take self.now.next self.now.entries.items }
+        ensures { result.now ≡ self.now.came }
     {
         &self.entries[0..self.next as usize]
     }

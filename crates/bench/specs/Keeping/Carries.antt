@@ -1,37 +1,48 @@
--- A plug: what moves before an access moves as the rules say.
-use Rattle.std.specs.Prelude.{◌≡◌, ℕ, ◌-◌, true, cond, List, [], ◌∷◌, length, map, refl}
+-- With a cable: what moves before an access keeps the chip sound, and moves as the rules say.
+use Rattle.std.specs.Prelude.{◌≡◌, ℕ, ◌+◌, ◌-◌, true, cond, List, [], ◌∷◌, ◌++◌, length, map, min, refl}
 use Rattle.std.proofs.Common.{arith, sym, ap, ◌∙◌, subst}
-use denote.Struct.Props.{props}
-use mathlib.Core.HLevel.{is_prop→PathP}
-use Rattle.std.proofs.lemmas.List.{map_push}
-use Rattle.std.proofs.lemmas.Bool.{and_parts, cond_both, cond-true, cond-false}
+use Rattle.std.proofs.lemmas.List.{length-map, length_push, map_push}
+use Rattle.std.proofs.lemmas.Bool.{and_parts, ltb-true, cond_both, cond-true, cond-false}
 use Rattle.backends.specs.Chip.{ChipState}
 use Rattle.backends.specs.Rules.{unmarked, LineMoved, LoopMoved, Moved}
-use Rattle.bench.specs.declared.plug.Plug.{Plug}
-use Rattle.bench.specs.declared.wired.Wired.{Wired}
+use Rattle.bench.specs.declared.cable.Cable.{Cable}
+use Rattle.bench.specs.Cable.{came, gone, carrying, carried, ticked}
 use Rattle.bench.specs.Core.{accepting, reaching, turned}
-use Rattle.bench.specs.Kept.{sound_room}
-use Rattle.bench.specs.Line.{gone, room}
-use Rattle.bench.specs.Meaning.{receiver_of, transmitter_of}
-use Rattle.bench.specs.Plug.{wired_meaning}
-use Rattle.bench.specs.Receiver.{Room}
+use Rattle.bench.specs.Kept.{arrived_sound, turned_sound}
+use Rattle.bench.specs.Line.{room}
+use Rattle.bench.specs.Meaning.{receiver_of}
 use Rattle.bench.specs.Settings.{mode, loops}
-use Rattle.bench.specs.Wired.{WiredSound, wired_with, carrying, carried, wired_ticked, wired_ticked_sound}
+use Rattle.bench.specs.Sound.{Sound}
+use Rattle.bench.specs.State.{State, state, meaning_of}
 use Rattle.bench.specs.Keeping.Acts.{chip_path}
-use Rattle.bench.specs.Keeping.Moves.{turned_is}
 use Rattle.bench.specs.Keeping.Reaches.{reach_is}
-use Rattle.bench.specs.Keeping.Sends.{gone_written, one_gone_is}
+use Rattle.bench.specs.Keeping.Rounds.{turned_is}
+use Rattle.bench.specs.Keeping.Sends.{one_gone_is}
 
--- the counts can grow when an access acts
-pub wired_room : (w : Wired) → WiredSound w → Room (wired_ticked w).core.receiver.counts
-wired_room w h = let t = wired_ticked_sound w h in sound_room (wired_ticked w).line.left (wired_ticked w).core (omega arith) t.0
+-- It keeps the chip sound
 
-sound_prop : (w : Wired) → IsProp (WiredSound w)
-sound_prop w = hlevel props
+abbrev IsSound : State Cable → Type 0
+IsSound p = Sound (length (came p.joined)) p.core
 
--- plugs with the same chip and line are one plug
-pub same_plug : (a b : Plug) → a.wired ≡ b.wired → a ≡ b
-same_plug a b e = λ i. record { wired = e i; ok = is_prop→PathP (λ k. WiredSound (e k)) (λ k. sound_prop (e k)) a.ok b.ok i }
+carried_sound : (bs : List ℕ) (p : State Cable) → carrying p ≡ true → IsSound p → IsSound (carried bs p)
+carried_sound [] p r h = h
+carried_sound (b ∷ bs) p r h =
+    let l = p.joined.line in
+    let o = ltb-true (length l.gone) (min l.space 65535) (and_parts (room l) (accepting p.core) r).0 in
+    let n : length (map unmarked (l.gone ++ b ∷ [])) ≡ length (map unmarked l.gone) + 1 = omega (arith, length-map (l.gone ++ b ∷ []) unmarked, length-map l.gone unmarked, length_push l.gone b) in
+    subst (λ m. Sound m (carried (b ∷ bs) p).core) (sym n)
+    (arrived_sound (unmarked b) (length (map unmarked l.gone)) p.core (omega (arith, length-map l.gone unmarked)) h)
+
+pub ticked_sound : (p : State Cable) → IsSound p → IsSound (ticked p)
+ticked_sound p h =
+    cond_both (loops p.core.settings) (state (turned p.core) p.joined) _ IsSound
+    (λ _. turned_sound (length (came p.joined)) p.core h)
+    (λ _. cond_both (carrying p) (carried p.core.transmitter.held p) p IsSound (λ e. carried_sound p.core.transmitter.held p e h) (λ _. h))
+
+-- It moves as the rules say
+
+abbrev meaning : State Cable → ChipState
+meaning p = meaning_of came gone p
 
 none_moved : (m : ChipState) → LineMoved m m
 none_moved m =
@@ -44,34 +55,31 @@ none_moved m =
       after = ap (λ n. record { receiver = m.receiver; transmitter = record { given = t.given; held = n; turning = t.turning }; setup = m.setup }) e;
     }
 
-carried_moves : (bs : List ℕ) (w : Wired) → w.core.transmitter.held ≡ bs → room w.line ≡ true → LineMoved (wired_meaning w) (wired_meaning (carried bs w))
-carried_moves [] w e r = none_moved (wired_meaning w)
-carried_moves (b ∷ bs) w e r =
+carried_moves : (bs : List ℕ) (p : State Cable) → p.core.transmitter.held ≡ bs → LineMoved (meaning p) (meaning (carried bs p))
+carried_moves [] p e = none_moved (meaning p)
+carried_moves (b ∷ bs) p e =
     let c = unmarked b in
-    let more = gone_written w.line b r in
     record {
       arrivals = c ∷ [];
       gone = 1;
       enough = rw e (omega arith);
       after = rw e (chip_path _ _ _ _ _
-          (ap (λ bs. receiver_of (map unmarked bs) (reaching w.core c)) more
-          ∙ ap (λ cs. receiver_of cs (reaching w.core c)) (map_push unmarked (gone w.line) b)
-          ∙ reach_is (mode w.core.settings.fifos) c w.core.receiver (map unmarked (gone w.line)) (c ∷ []))
-          (ap (λ xs. transmitter_of xs (record { held = bs; turning = w.core.transmitter.turning })) more
-          ∙ one_gone_is (gone w.line) b bs w.core.transmitter.turning));
+          (ap (λ cs. receiver_of cs (reaching p.core c)) (map_push unmarked (gone p.joined) b)
+          ∙ reach_is (mode p.core.settings.fifos) c p.core.receiver (came p.joined) (c ∷ []))
+          (one_gone_is (gone p.joined) b bs p.core.transmitter.turning));
     }
 
-line_moves : (w : Wired) → LineMoved (wired_meaning w) (wired_meaning (cond (carrying w) (carried w.core.transmitter.held w) w))
-line_moves w =
-    cond_both (carrying w) _ w (λ q. LineMoved (wired_meaning w) (wired_meaning q))
-    (λ e. carried_moves w.core.transmitter.held w refl (and_parts (room w.line) (accepting w.core) e).0) (λ _. none_moved (wired_meaning w))
+line_moves : (p : State Cable) → LineMoved (meaning p) (meaning (cond (carrying p) (carried p.core.transmitter.held p) p))
+line_moves p =
+    cond_both (carrying p) (carried p.core.transmitter.held p) p (λ q. LineMoved (meaning p) (meaning q))
+    (λ _. carried_moves p.core.transmitter.held p refl) (λ _. none_moved (meaning p))
 
-pub wired_moves : (w : Wired) → Moved (wired_meaning w) (wired_meaning (wired_ticked w))
-wired_moves w =
-    let a = wired_with w (turned w.core) in
-    let b = cond (carrying w) (carried w.core.transmitter.held w) w in
+pub ticked_moves : (p : State Cable) → Moved (meaning p) (meaning (ticked p))
+ticked_moves p =
+    let a = state (turned p.core) p.joined in
+    let b = cond (carrying p) (carried p.core.transmitter.held p) p in
     record {
-      line = λ e. subst (λ q. LineMoved (wired_meaning w) (wired_meaning q)) (sym (cond-false (loops w.core.settings) a b e)) (line_moves w);
-      loop = λ e. subst (λ q. LoopMoved (wired_meaning w) (wired_meaning q)) (sym (cond-true (loops w.core.settings) a b e))
-          (turned_is (map unmarked (gone w.line)) (gone w.line) w.core);
+      line = λ e. subst (λ q. LineMoved (meaning p) (meaning q)) (sym (cond-false (loops p.core.settings) a b e)) (line_moves p);
+      loop = λ e. subst (λ q. LoopMoved (meaning p) (meaning q)) (sym (cond-true (loops p.core.settings) a b e))
+          (turned_is (came p.joined) (gone p.joined) p.core);
     }

@@ -1,35 +1,20 @@
--- The simulated chips keep the rules.
-use Rattle.std.specs.Prelude.{map}
-use Rattle.backends.specs.Rules.{KeepsRules, unmarked}
-use Rattle.bench.specs.Bench.{bench_device, bench_meaning, parts_meaning}
-use Rattle.bench.specs.Line.{gone}
-use Rattle.bench.specs.Parts.{ticked}
-use Rattle.bench.specs.Plug.{plug_device, plug_meaning, wired_meaning}
-use Rattle.bench.specs.Tape.{came}
-use Rattle.bench.specs.Wired.{wired_ticked}
+-- A simulated chip keeps the rules.
+use Rattle.std.specs.Prelude.{ℕ, List}
+use Rattle.backends.specs.declared.character.Character.{Character}
+use Rattle.backends.specs.Rules.{Moved, Reading, Writing}
+use Rattle.bench.specs.Core.{answer}
+use Rattle.bench.specs.State.{State, meaning_of, read, write}
 use Rattle.bench.specs.Keeping.Acts.{reads_act, writes_act}
-use Rattle.bench.specs.Keeping.Carries.{wired_moves}
-use Rattle.bench.specs.Keeping.Moves.{ticked_moves}
-use Rattle.bench.specs.Keeping.Single.{single_waits}
 
-pub bench_keeps : KeepsRules bench_device bench_meaning
-bench_keeps = record {
-  reading = λ s k l.
-      let q = ticked s.parts in
-      record { mid = parts_meaning q; before = ticked_moves s.parts s.ok; acts = reads_act (came q.tape) (gone q.line) q.core k };
-  writing = λ s k v l.
-      let q = ticked s.parts in
-      record { mid = parts_meaning q; before = ticked_moves s.parts s.ok; acts = writes_act (came q.tape) (gone q.line) q.core k v };
-  single = λ s e. single_waits s.parts.core s.ok.0.1 e;
-}
+-- what is joined to the chip moves it as the rules say, and then the register acts
+module _ {J : Type 0} (came : J → List Character) (gone : J → List ℕ) (ticked : State J → State J)
+    (moves : (s : State J) → Moved (meaning_of came gone s) (meaning_of came gone (ticked s))) where
+  pub keeps_reading : (s : State J) (k : ℕ) → Reading (meaning_of came gone s) k (answer (ticked s).core k) (meaning_of came gone (read (ticked s) k))
+  keeps_reading s k =
+      let t = ticked s in
+      record { mid = meaning_of came gone t; before = moves s; acts = reads_act (came t.joined) (gone t.joined) t.core k }
 
-pub plug_keeps : KeepsRules plug_device plug_meaning
-plug_keeps = record {
-  reading = λ s k l.
-      let w = wired_ticked s.wired in
-      record { mid = wired_meaning w; before = wired_moves s.wired; acts = reads_act (map unmarked (gone w.line)) (gone w.line) w.core k };
-  writing = λ s k v l.
-      let w = wired_ticked s.wired in
-      record { mid = wired_meaning w; before = wired_moves s.wired; acts = writes_act (map unmarked (gone w.line)) (gone w.line) w.core k v };
-  single = λ s e. single_waits s.wired.core s.ok.0.1 e;
-}
+  pub keeps_writing : (s : State J) (k v : ℕ) → Writing (meaning_of came gone s) k v (meaning_of came gone (write (ticked s) k v))
+  keeps_writing s k v =
+      let t = ticked s in
+      record { mid = meaning_of came gone t; before = moves s; acts = writes_act (came t.joined) (gone t.joined) t.core k v }

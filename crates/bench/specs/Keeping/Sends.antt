@@ -1,13 +1,10 @@
 -- The transmitter's steps are the rules' steps of what it means.
-use Rattle.std.specs.Prelude.{◌≡◌, ℕ, ◌+◌, ◌-◌, min, Bool, true, List, [], ◌∷◌, ◌++◌, length, vec_items, vec_len, nat_lt, refl}
+use Rattle.std.specs.Prelude.{◌≡◌, ℕ, ◌+◌, ◌-◌, Bool, List, [], ◌∷◌, ◌++◌, length, nat_lt, refl}
 use Rattle.std.proofs.Common.{arith, append_assoc, append-nil, sym, ◌∙◌, length-append}
-use Rattle.std.proofs.lemmas.List.{length_push, take_more_set, take_at}
-use Rattle.std.proofs.lemmas.Bool.{ltb-true}
+use Rattle.std.proofs.lemmas.List.{length_push, take_at}
 use Rattle.backends.specs.Chip.{Transmitter as RulesTransmitter}
 use Rattle.backends.specs.Rules.{sent as rules_sent, struck as rules_struck}
-use Rattle.bench.specs.declared.line.Line.{Line}
 use Rattle.bench.specs.declared.transmitter.Transmitter.{Transmitter}
-use Rattle.bench.specs.Line.{gone, room, written}
 use Rattle.bench.specs.Meaning.{transmitter_of}
 use Rattle.bench.specs.Transmitter.{filling, sent, struck}
 use Rattle.bench.specs.Keeping.Cases.{cond_along}
@@ -15,14 +12,6 @@ use Rattle.bench.specs.Keeping.Cases.{cond_along}
 transmitter_path : (a b : List ℕ) (m n : ℕ) (xs : List ℕ) → a ≡ b → m ≡ n
     → ◌≡◌ {A = RulesTransmitter} (record { given = a; held = m; turning = xs }) (record { given = b; held = n; turning = xs })
 transmitter_path a b m n xs p q = cc
-
--- what left, with one byte more
-pub gone_written : (l : Line) (b : ℕ) → room l ≡ true → gone (written l b) ≡ gone l ++ b ∷ []
-unfolding written
-gone_written l b e =
-    let o = l.store.ok.0 in
-    let k = ltb-true l.left (min (vec_len l.store) 65535) e in
-    take_more_set (vec_items l.store) l.left b (omega arith)
 
 module _ (g : List ℕ) (t : Transmitter) where
   -- a byte is taken as the rules say

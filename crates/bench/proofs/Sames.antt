@@ -1,0 +1,21 @@
+-- Simulated chips.
+use Rattle.std.proofs.Common.{◌≡◌, ℕ, length, sym, subst}
+use denote.Struct.Props.{props}
+use mathlib.Core.HLevel.{is_prop→PathP}
+use Rattle.bench.specs.declared.chip_core.Core.{Core}
+use Rattle.bench.specs.declared.joined.Joined.{Ghosts}
+use Rattle.bench.specs.declared.simulated.Simulated.{Simulated}
+use Rattle.bench.specs.Kept.{answered_sound, written_sound}
+use Rattle.bench.specs.Sound.{Sound}
+use Rattle.bench.specs.State.{State, state, read, write}
+
+module _ {J : Type 0} (G : Ghosts J) where
+  abbrev pub IsSound : State J → Type 0
+  IsSound p = Sound (length (G.came p.joined)) p.core
+
+  sound_prop : (p : State J) → IsProp (IsSound p)
+  sound_prop p = hlevel props
+
+  -- with the same chip and what is joined to it, two are one
+  pub same_simulated : (a b : Simulated J G) → state a.core a.joined ≡ state b.core b.joined → a ≡ b
+  same_simulated a b e = λ i. record { core = (e i).core; joined = (e i).joined; ok = is_prop→PathP (λ k. IsSound (e k)) (λ k. sound_prop (e k)) a.ok b.ok i }

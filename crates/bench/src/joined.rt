@@ -1,0 +1,31 @@
+//! What is joined to a chip.
+
+ghost use Rattle.std.specs.Prelude.{◌≡◌, ℕ, List, length};
+ghost use Rattle.backends.specs.declared.character.Character.{Character};
+ghost use Rattle.backends.specs.Rules.{Moved};
+ghost use Rattle.bench.specs.Sound.{Sound};
+ghost use Rattle.bench.specs.State.{State, state, meaning_of};
+
+use crate::chip_core::Core;
+
+/// What is joined to a chip: before each access it lets characters arrive at the chip, and bytes
+/// leave it, as the rules say.
+pub trait Joined: Drop {
+    // the characters that have come, and the bytes that have left
+    ghost came: { Self → List Character };
+
+    ghost gone: { Self → List ℕ };
+
+    // the chip, and what is joined to it, when an access acts
+    ghost ticked: { State Self → State Self };
+
+    // it keeps the chip sound
+    ghost sound: { (s : State Self) → Sound (length (came s.joined)) s.core → Sound (length (came (ticked s).joined)) (ticked s).core };
+
+    /// What happens before an access acts.
+    fn tick(&mut self, core: &mut Core)
+        requires { Sound (length (came self.old)) core.old }
+        ensures { state core.new self.new ≡ ticked (state core.old self.old) };
+
+    ghost moves: { (s : State Self) → Moved (meaning_of came gone s) (meaning_of came gone (ticked s)) };
+}

@@ -1,0 +1,83 @@
+//! A tape and a line with a pace, and what they do before an access.
+
+ghost use Rattle.std.specs.Prelude.{◌≡◌, ℕ, true, length};
+ghost use Rattle.bench.specs.Receiver.{Room};
+ghost use Rattle.bench.specs.Sound.{Sound};
+ghost use Rattle.bench.specs.State.{state};
+ghost use Rattle.bench.specs.TapeAndLine.{came, arriving, arrives, filled, leaving, passed_looping, beaten, aged};
+
+use crate::chip_core::Core;
+use crate::line::Line;
+use crate::pace::Pace;
+use crate::tape::Tape;
+
+pub mod joint;
+
+/// A tape from which characters arrive, a line to which bytes leave, and how often they do.
+#[derive(Drop)]
+pub struct TapeAndLine {
+    pub tape: Tape,
+    pub line: Line,
+    pub pace: Pace,
+}
+
+impl TapeAndLine {
+    /// Whether a character arrives now.
+    fn due(&self, core: &Core) -> bool
+        ensures { result ≡ arriving (state core.now self.now) }
+    {
+        core.accepts() && self.tape.over()
+    }
+
+    /// A character arrives.
+    fn arrive(&mut self, core: &mut Core)
+        requires room { Room core.old.receiver.counts }
+        requires due { arriving (state core.old self.old) ≡ true }
+        ensures { state core.new self.new ≡ arrives self.old.tape.coming (state core.old self.old) }
+    {
+        let c = self.tape.advance();
+        core.receiver.reach(core.settings.fifos, c);
+    }
+
+    /// All characters arrive whose time has come.
+    pub fn fill(&mut self, core: &mut Core)
+        requires { Sound (length (came self.old)) core.old }
+        ensures exact { state core.new self.new ≡ filled (state core.old self.old) }
+        ensures sound { Sound (length (came self.new)) core.new }
+    {
+        while self.due(core) {
+            self.arrive(core);
+        }
+    }
+
+    /// The oldest held byte leaves, if there is one and the line has room.
+    fn leave(&mut self, core: &mut Core)
+        ensures { state core.new self.new ≡ leaving (state core.old self.old) }
+    {
+        if self.line.has_room() {
+            if let Some(byte) = core.transmitter.held.pop() {
+                self.line.put(byte);
+            }
+        }
+    }
+
+    /// In loop mode the oldest byte comes round on a beat.
+    pub fn pass_looping(&mut self, core: &mut Core)
+        requires { Room core.old.receiver.counts }
+        ensures { state core.new self.new ≡ passed_looping (state core.old self.old) }
+    {
+        if self.pace.beat() {
+            core.turn();
+        }
+    }
+
+    /// Outside loop mode the oldest held byte leaves on a beat, and the access counts for the gaps.
+    pub fn pass(&mut self, core: &mut Core)
+        ensures { state core.new self.new ≡ aged (beaten (state core.old self.old)) }
+    {
+        if self.pace.beat() {
+            self.leave(core);
+        }
+        self.tape.age();
+    }
+}
