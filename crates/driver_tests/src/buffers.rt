@@ -105,11 +105,8 @@ fn set_up<'a>(how: &SetUp) -> Device<'a> {
 /// What the reads of a device give on which the characters from 1 to n wait, at most 40.
 fn waiting(n: usize) -> [u8; 81] {
     let mut reads = [0x60; 81];
-    for i in 0..40 {
-        if i < n {
-            reads[2 * i] = 0x61;
-            reads[2 * i + 1] = i as u8 + 1;
-        }
+    for (pair, byte) in reads.chunks_exact_mut(2).zip(1..=40).take(n) {
+        pair.copy_from_slice(&[0x61, byte]);
     }
     reads
 }
@@ -117,11 +114,8 @@ fn waiting(n: usize) -> [u8; 81] {
 /// What a buffer holds that got the characters from 1 to n.
 fn held(n: usize) -> [u8; ROOM] {
     let mut places = [UNTOUCHED; ROOM];
-    for i in 0..ROOM {
-        if i < n {
-            places[i] = i as u8 + 1;
-        }
-    }
+    let n = n.min(ROOM);
+    places[..n].copy_from_slice(&NUMBERED[..n]);
     places
 }
 

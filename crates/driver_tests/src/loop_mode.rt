@@ -57,15 +57,12 @@ fn reads(run: &Run) -> [u8; 58] {
     reads[7] = 0x61;
     reads[8] = run.byte;
     reads[9] = 0x60;
-    for i in 0..16 {
-        // without FIFOs three reads for each byte, with them two
-        let at = if run.fifos { 10 + 2 * i } else { 10 + 3 * i };
-        reads[at] = 0x61;
-        reads[at + 1] = run.message[i];
-        if !run.fifos && i < 15 {
-            reads[at + 2] = 0x60;
-        }
+    // without FIFOs three reads for each byte, with them two
+    let each = if run.fifos { 2 } else { 3 };
+    for (of_byte, byte) in reads[10..].chunks_exact_mut(each).zip(run.message) {
+        of_byte.copy_from_slice(&[0x61, byte, 0x60][..each]);
     }
+    reads[57] = 0xB0;
     reads
 }
 
@@ -150,6 +147,7 @@ fn with_all_wrong_bits(rt: &impl Abort, run: Run, mask: u8) -> Result<(), Fail> 
     for bit in BITS {
         let carries = bit & mask != 0;
         test(rt, &wrong_byte(run, bit, carries))?;
+        // each place of the message is wrong in a run of its own
         for at in 0..16 {
             test(rt, &wrong_message(run, at, bit, carries))?;
         }
