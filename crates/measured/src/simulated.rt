@@ -1,4 +1,6 @@
 //! Exported runs over a small simulated chip.
+//!
+//! C calls each by a name of its own, so there is a function for each run, on either device.
 
 ghost use Rattle.std.specs.Prelude.{◌≤◌, length};
 

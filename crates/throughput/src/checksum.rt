@@ -6,16 +6,13 @@ ghost use Rattle.std.specs.Prelude.{◌≡◌};
 use std::ops::AddAssign;
 
 /// How many bytes there were, and the sum of all bytes, each times its place counted from 1.
-#[derive(Clone, Copy)]
+#[derive(Clone, Copy, Default)]
 pub struct Checksum {
     pub count: u64,
     pub sum: u64,
 }
 
 impl Checksum {
-    /// Of no bytes.
-    pub const NONE: Checksum = Checksum { count: 0, sum: 0 };
-
     /// One byte more.
     fn with(self, byte: u8) -> Checksum
         ensures { result ≡ with_byte byte self }
@@ -38,7 +35,7 @@ impl Checksum {
     pub fn of(bytes: &[u8]) -> Checksum
         ensures { result ≡ with_bytes bytes.now blank }
     {
-        Checksum::NONE.with_all(bytes)
+        Checksum::default().with_all(bytes)
     }
 }
 

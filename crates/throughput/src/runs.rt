@@ -68,7 +68,7 @@ fn take<B: Backend>(uart: &mut Uart16550<B>, received: &mut Checksum) {
 
 /// Receives as many characters as the message has, at most sixteen to a call.
 fn receive<B: Backend>(uart: &mut Uart16550<B>) -> Checksum {
-    let mut received = Checksum::NONE;
+    let mut received = Checksum::default();
     for _ in 0..LENGTH as usize / FIFO_SIZE {
         take(uart, &mut received);
     }
@@ -78,7 +78,7 @@ fn receive<B: Backend>(uart: &mut Uart16550<B>) -> Checksum {
 /// Sends the message, sixteen bytes to a call, and after each call receives what came back.
 fn exchange<B: Backend>(uart: &mut Uart16550<B>, bytes: &[u8]) -> (u64, Checksum) {
     let mut sent: u64 = 0;
-    let mut received = Checksum::NONE;
+    let mut received = Checksum::default();
     for part in bytes.chunks(FIFO_SIZE) {
         sent = sent.wrapping_add(uart.send_bytes(part) as u64);
         take(uart, &mut received);
@@ -152,7 +152,7 @@ fn from_tape(heap: Global, arrival: Arrival) -> anyhow::Result<Totals> {
 fn into_store(heap: Global, bytes: &[u8]) -> anyhow::Result<Totals> {
     on_chip(
         bench(heap, Vec::new(heap))?,
-        |uart| (send(uart, bytes), Checksum::NONE),
+        |uart| (send(uart, bytes), Checksum::default()),
     )
 }
 

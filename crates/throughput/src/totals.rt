@@ -9,7 +9,7 @@ use std::iter::Sum;
 use std::ops::AddAssign;
 
 /// What became of the characters on some chips.
-#[derive(Clone, Copy)]
+#[derive(Clone, Copy, Default)]
 pub struct Totals {
     /// How many chips there were.
     pub chips: u64,
@@ -21,17 +21,6 @@ pub struct Totals {
     pub received: Checksum,
     /// How many characters were lost.
     pub lost: u64,
-}
-
-impl Totals {
-    /// Of no chip.
-    pub const NONE: Totals = Totals {
-        chips: 0,
-        sent: 0,
-        left: Checksum::NONE,
-        received: Checksum::NONE,
-        lost: 0,
-    };
 }
 
 /// Those of both.
@@ -52,7 +41,7 @@ impl Sum<Totals> for Totals {
     ghost sum_gives = { λ ts r. r ≡ fold added none ts };
 
     fn sum<I: Iterator<Item = Totals>>(iter: I) -> Totals {
-        let mut totals = Totals::NONE;
+        let mut totals = Totals::default();
         for more in iter {
             totals += more;
         }
