@@ -3,7 +3,7 @@
 ghost use Rattle.std.specs.Prelude.{◌≡◌, ℕ, ◌+◌, ◌*◌, ◌<◌, ◌≤◌, Some, None, Ok, Err};
 ghost use Rattle.registers.specs.Divisor.{DivisorOf, NoDivisor, prescaled};
 ghost use Rattle.registers.specs.Examples.{WorkedExamples};
-ghost use Rattle.registers.specs.Quotient.{IsQuotient, quotient_refusal};
+ghost use Rattle.registers.specs.Quotient.{IsQuotient, NoQuotientFor, quotient_refusal};
 ghost use Rattle.registers.specs.Rate.{RateOf, NoRate};
 ghost use Rattle.registers.specs.Refusal.{baud_refusal, divisor_refusal};
 
@@ -71,8 +71,8 @@ impl Formula {
     /// The quotient. Refuses by the first question that is answered no.
     fn quotient(self) -> Result<u32, QuotientError>
         ensures { elim result [
-          | Ok n ↦ IsQuotient self.frequency self.factor self.prescaler_division_factor n
-          | Err e ↦ NoDivisor self.frequency self.factor self.prescaler_division_factor (quotient_refusal 4 6 e) × NoRate self.frequency self.factor self.prescaler_division_factor (quotient_refusal 18 19 e)
+          | Ok n ↦ IsQuotient self n
+          | Err e ↦ NoQuotientFor self e
         ] }
     {
         let Self {

@@ -33,6 +33,7 @@ pub enum InvalidDivisorError {
     },
 }
 
+// The Rust has a type of its own for each direction of the formula.
 /// No rate is an integer for these values.
 #[derive(Clone, Copy, Debug, PartialEq, Eq)]
 pub struct NonIntegerBaudRateError {

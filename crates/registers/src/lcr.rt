@@ -66,6 +66,7 @@ impl WordLength {
         }
     }
 
+    // Not `From` or `TryFrom`: a number that is no word length is 8 bits, as in the Rust.
     /// The word length of so many bits; 8 bits for a number that is none.
     pub fn from_integer(value: u8) -> Self
         ensures { word_bits result ≡ word_bits_or_8 value }

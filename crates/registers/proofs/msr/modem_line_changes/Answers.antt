@@ -1,4 +1,4 @@
-use Rattle.std.proofs.Common.{◌≡◌, ℕ, ◌+◌, ◌-◌, ◌/◌, ◌≤◌, min, max, ap, ◌∙◌, subst, ap₂, arith}
+use Rattle.std.proofs.Common.{◌≡◌, ℕ, ◌+◌, ◌-◌, ◌/◌, ◌≤◌, min, max, ◌∙◌, subst, arith}
 use lib.Bits.{bit_and, bit_or, bit_xor, and_le_r, or_lt}
 use Rattle.registers.specs.Fields.{bit}
 use Rattle.registers.specs.Modem.{changed}
@@ -9,11 +9,7 @@ use Rattle.registers.proofs.msr.modem_line_changes.Goals as goal
 told : (old new j : ℕ)
     → bit j (bit_or (bit_and (bit_xor old new / 16) 11) (bit_and (bit_and old (255 - new) / 16) 4))
     ≡ max (min (changed (4 + j) old new) (bit j 11)) (min (min (bit (4 + j) old) (bit (4 + j) (255 - new))) (bit j 4))
-told old new j =
-    bit_of_or j _ _
-    ∙ ap₂ max
-    (bit_of_and j _ _ ∙ ap (λ n. min n (bit j 11)) (bit_of_shr 4 j (bit_xor old new) ∙ bit_of_xor (4 + j) old new))
-    (bit_of_and j _ _ ∙ ap (λ n. min n (bit j 4)) (bit_of_shr 4 j (bit_and old (255 - new)) ∙ bit_of_and (4 + j) old (255 - new)))
+told old new j = simp (bit_of_or, bit_of_and, bit_of_shr 4, bit_of_xor)
 
 either : (k old new : ℕ) → changed k old new ≤ 1
 either k old new = subst (λ n. n ≤ 1) (bit_of_xor k old new) (bit_le k (bit_xor old new))
