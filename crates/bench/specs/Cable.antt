@@ -22,13 +22,8 @@ carrying p = room p.joined.line && accepting p.core
 -- the oldest of these held bytes leaves, and arrives
 abbrev pub carried : List ℕ → State Cable → State Cable
 carried [] p = p
-carried (b ∷ bs) p = state
-    (record {
-      receiver = reaching p.core (unmarked b);
-      transmitter = record { held = bs; turning = p.core.transmitter.turning };
-      settings = p.core.settings;
-      modem = p.core.modem;
-    })
+carried (b ∷ bs) p =
+    state (record p.core { receiver = reaching p.core (unmarked b); transmitter = record p.core.transmitter { held = bs } })
     (record { line = written p.joined.line b })
 
 -- what happens before an access acts: every access is a beat

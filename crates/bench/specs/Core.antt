@@ -19,16 +19,16 @@ use Rattle.bench.specs.Transmitter.{filling, sent, struck, unlooped}
 use Rattle.bench.specs.Modem.{latched, shown, unchanged}
 
 abbrev pub with_receiver : Core → Receiver → Core
-with_receiver s r = record { receiver = r; transmitter = s.transmitter; settings = s.settings; modem = s.modem }
+with_receiver s r = record s { receiver = r }
 
 abbrev pub with_transmitter : Core → Transmitter → Core
-with_transmitter s t = record { receiver = s.receiver; transmitter = t; settings = s.settings; modem = s.modem }
+with_transmitter s t = record s { transmitter = t }
 
 abbrev pub with_settings : Core → Settings → Core
-with_settings s g = record { receiver = s.receiver; transmitter = s.transmitter; settings = g; modem = s.modem }
+with_settings s g = record s { settings = g }
 
 abbrev pub with_modem : Core → Modem → Core
-with_modem s m = record { receiver = s.receiver; transmitter = s.transmitter; settings = s.settings; modem = m }
+with_modem s m = record s { modem = m }
 
 -- one more character may be lost, so one may reach the receiver
 abbrev pub accepting : Core → Bool
@@ -41,12 +41,7 @@ reaching s c = reached (mode s.settings.fifos) c s.receiver
 -- the oldest of these looped bytes comes round
 abbrev pub come_round : List ℕ → Core → Core
 come_round [] s = s
-come_round (b ∷ bs) s = record {
-  receiver = reaching s (unmarked b);
-  transmitter = record { held = s.transmitter.held; turning = bs };
-  settings = s.settings;
-  modem = s.modem;
-}
+come_round (b ∷ bs) s = record s { receiver = reaching s (unmarked b); transmitter = record s.transmitter { turning = bs } }
 
 -- in loop mode the oldest byte comes round
 abbrev pub turned : Core → Core
@@ -115,15 +110,13 @@ answered s k = entry_of k
 
 -- the FIFOs are turned on or off
 abbrev pub switched : Fifos → Core → Core
-switched f s = record { receiver = emptied s.receiver; transmitter = struck; settings = with_fifos s.settings f; modem = s.modem }
+switched f s = record s { receiver = emptied s.receiver; transmitter = struck; settings = with_fifos s.settings f }
 
 -- the FIFOs stay on: two bits empty one queue each
 abbrev pub reset : ℕ → Core → Core
-reset v s = record {
+reset v s = record s {
   receiver = cond (contains v rx_fifo_reset) (emptied s.receiver) s.receiver;
   transmitter = cond (contains v tx_fifo_reset) struck s.transmitter;
-  settings = s.settings;
-  modem = s.modem;
 }
 
 -- the FIFO control is written
@@ -134,8 +127,7 @@ controlled On v s = cond (contains v fifo_enable) (reset v s) (switched Off s)
 
 -- the modem control is written
 abbrev pub modem_controlled : ℕ → Core → Core
-modem_controlled v s = record {
-  receiver = s.receiver;
+modem_controlled v s = record s {
   transmitter = cond (loops s.settings && not (contains v loop_back)) (unlooped s.transmitter) s.transmitter;
   settings = with_mcr s.settings v;
   modem = latched s.modem s.settings.mcr v;

@@ -1,5 +1,6 @@
 -- Why the simulated chips keep the rules: proofs, which stand here since the law of `Chip` is given with an `impl` and
 -- cites them. There is nothing to believe in them.
+pub mod Kept
 pub mod Cases
 pub mod Reaches
 pub mod Sends

@@ -10,7 +10,6 @@ pub mod Tape
 pub mod Pace
 pub mod Core
 pub mod Sound
-pub mod Kept
 pub mod Meaning
 pub mod Making
 pub mod State

@@ -17,4 +17,4 @@ room l = nat_lt (length l.gone) (min l.space 65535)
 
 -- a byte leaves
 abbrev pub written : Line → ℕ → Line
-written l b = record { gone = l.gone ++ b ∷ []; space = l.space }
+written l b = record l { gone = l.gone ++ b ∷ [] }

@@ -1,5 +1,5 @@
 -- What the state of a simulated chip means.
-use Rattle.std.specs.Prelude.{ℕ, List, ◌++◌, length}
+use Rattle.std.specs.Prelude.{ℕ, ◌-◌, List, ◌++◌, length, take}
 use Rattle.backends.specs.declared.character.Character.{Character}
 use Rattle.backends.specs.Chip.{ChipState, Receiver as RulesReceiver, Transmitter as RulesTransmitter, Setup}
 use Rattle.bench.specs.declared.receiver.Receiver.{Receiver}
@@ -22,3 +22,7 @@ setup_of g = record { lcr = g.lcr; mcr = g.mcr; dll = g.dll; dlm = g.dlm; fifos 
 -- a chip to which these characters came, and from which these bytes have left
 abbrev pub chip_of : List Character → List ℕ → Core → ChipState
 chip_of came gone s = record { receiver = receiver_of came s.receiver; transmitter = transmitter_of gone s.transmitter; setup = setup_of s.settings }
+
+-- the bytes that have left: those given but for the held ones
+abbrev pub left : RulesTransmitter → List ℕ
+left t = take (length t.given - t.held) t.given

@@ -6,4 +6,4 @@ abbrev pub beats : Pace → Bool
 beats p = nat_le p.between p.passed
 
 abbrev pub passed : Pace → Pace
-passed p = record { between = p.between; passed = cond (beats p) 0 (p.passed + 1) }
+passed p = record p { passed = cond (beats p) 0 (p.passed + 1) }

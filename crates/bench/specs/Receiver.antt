@@ -7,7 +7,8 @@ use Rattle.backends.specs.Chip.{Fifos, is_on, capacity}
 use Rattle.backends.specs.Rules.{first, joining, next_first, overrun}
 use Rattle.bench.specs.declared.receiver.Receiver.{Receiver}
 
--- the mark counts can grow by one
+-- the mark counts can grow by one; the receiver itself cannot keep this: they stay small since few characters come, and
+-- what is joined to the chip knows how many did
 abbrev pub Room : Counts → Type 0
 Room n = (n.parity + 1 < 2 ^ 64) × (n.framing + 1 < 2 ^ 64) × (n.broken + 1 < 2 ^ 64)
 
@@ -16,10 +17,10 @@ Room n = (n.parity + 1 < 2 ^ 64) × (n.framing + 1 < 2 ^ 64) × (n.broken + 1 < 
 abbrev pub reached : Fifos → Character → Receiver → Receiver
 reached f c r =
     cond (nat_lt (length r.queue) (capacity f))
-    (record { queue = r.queue ++ c ∷ []; counts = joining r.queue c r.counts; seen = r.seen })
+    (record r { queue = r.queue ++ c ∷ []; counts = joining r.queue c r.counts })
     (cond (is_on f)
-    (record { queue = r.queue; counts = overrun r.counts; seen = r.seen })
-    (record { queue = c ∷ []; counts = first c (overrun r.counts); seen = r.seen }))
+    (record r { counts = overrun r.counts })
+    (record r { queue = c ∷ []; counts = first c (overrun r.counts) }))
 
 -- what a read of the data register gives
 abbrev pub data_byte : List Character → ℕ
@@ -28,15 +29,15 @@ data_byte (c ∷ cs) = c.byte
 
 -- it takes the first of the waiting, and the next becomes the first
 abbrev pub taken : Receiver → Receiver
-taken r = record { queue = drop 1 r.queue; counts = next_first (drop 1 r.queue) r.counts; seen = r.seen }
+taken r = record r { queue = drop 1 r.queue; counts = next_first (drop 1 r.queue) r.counts }
 
 -- the queue is emptied
 abbrev pub emptied : Receiver → Receiver
-emptied r = record { queue = []; counts = r.counts; seen = r.seen }
+emptied r = record r { queue = [] }
 
 -- the line status was read
 abbrev pub noticed : Receiver → Receiver
-noticed r = record { queue = r.queue; counts = r.counts; seen = r.counts }
+noticed r = record r { seen = r.counts }
 
 abbrev pub bears_mark : Character → Bool
 bears_mark c = c.parity || (c.framing || c.broken)

@@ -27,24 +27,23 @@ scratch_byte None = 0xFF
 scratch_byte (Some v) = v
 
 abbrev pub with_fifos : Settings → Fifos → Settings
-with_fifos s f = record { ier = s.ier; lcr = s.lcr; mcr = s.mcr; dll = s.dll; dlm = s.dlm; scratch = s.scratch; fifos = f }
+with_fifos s f = record s { fifos = f }
 
 abbrev pub with_ier : Settings → ℕ → Settings
-with_ier s v = record { ier = v; lcr = s.lcr; mcr = s.mcr; dll = s.dll; dlm = s.dlm; scratch = s.scratch; fifos = s.fifos }
+with_ier s v = record s { ier = v }
 
 abbrev pub with_lcr : Settings → ℕ → Settings
-with_lcr s v = record { ier = s.ier; lcr = v; mcr = s.mcr; dll = s.dll; dlm = s.dlm; scratch = s.scratch; fifos = s.fifos }
+with_lcr s v = record s { lcr = v }
 
 abbrev pub with_mcr : Settings → ℕ → Settings
-with_mcr s v = record { ier = s.ier; lcr = s.lcr; mcr = v; dll = s.dll; dlm = s.dlm; scratch = s.scratch; fifos = s.fifos }
+with_mcr s v = record s { mcr = v }
 
 abbrev pub with_dll : Settings → ℕ → Settings
-with_dll s v = record { ier = s.ier; lcr = s.lcr; mcr = s.mcr; dll = v; dlm = s.dlm; scratch = s.scratch; fifos = s.fifos }
+with_dll s v = record s { dll = v }
 
 abbrev pub with_dlm : Settings → ℕ → Settings
-with_dlm s v = record { ier = s.ier; lcr = s.lcr; mcr = s.mcr; dll = s.dll; dlm = v; scratch = s.scratch; fifos = s.fifos }
+with_dlm s v = record s { dlm = v }
 
 -- a write of it, which is lost where there is none
 abbrev pub scratch_kept : ℕ → Settings → Settings
-scratch_kept v s = record
-    { ier = s.ier; lcr = s.lcr; mcr = s.mcr; dll = s.dll; dlm = s.dlm; scratch = cond (is_some s.scratch) (Some v) s.scratch; fifos = s.fifos }
+scratch_kept v s = record s { scratch = cond (is_some s.scratch) (Some v) s.scratch }

@@ -16,7 +16,7 @@ unplayed es = record { came = []; coming = es; since = 0 }
 
 -- one access more has passed
 abbrev pub older : Tape → Tape
-older t = record { came = t.came; coming = t.coming; since = cond (nat_lt t.since 255) (t.since + 1) t.since }
+older t = record t { since = cond (nat_lt t.since 255) (t.since + 1) t.since }
 
 -- the first of these entries has a gap of at most n
 abbrev pub due : ℕ → List TapeEntry → Bool

@@ -18,10 +18,10 @@ abbrev pub gone : TapeAndLine → List ℕ
 gone j = j.line.gone
 
 abbrev pub with_tape : TapeAndLine → Tape → TapeAndLine
-with_tape j t = record { tape = t; line = j.line; pace = j.pace }
+with_tape j t = record j { tape = t }
 
 abbrev pub with_line : TapeAndLine → Line → TapeAndLine
-with_line j l = record { tape = j.tape; line = l; pace = j.pace }
+with_line j l = record j { line = l }
 
 -- a character arrives now
 abbrev pub arriving : State TapeAndLine → Bool
@@ -45,14 +45,14 @@ filled p = fills p.joined.tape.coming p
 abbrev pub leaves : List ℕ → State TapeAndLine → State TapeAndLine
 leaves [] p = p
 leaves (b ∷ bs) p =
-    state (with_transmitter p.core (record { held = bs; turning = p.core.transmitter.turning })) (with_line p.joined (written p.joined.line b))
+    state (with_transmitter p.core (record p.core.transmitter { held = bs })) (with_line p.joined (written p.joined.line b))
 
 -- where the line has room, the oldest held byte leaves
 abbrev pub leaving : State TapeAndLine → State TapeAndLine
 leaving p = cond (room p.joined.line) (leaves p.core.transmitter.held p) p
 
 abbrev pub paced : TapeAndLine → TapeAndLine
-paced j = record { tape = j.tape; line = j.line; pace = passed j.pace }
+paced j = record j { pace = passed j.pace }
 
 -- in loop mode the oldest byte comes round on a beat
 abbrev pub passed_looping : State TapeAndLine → State TapeAndLine

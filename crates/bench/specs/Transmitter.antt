@@ -11,8 +11,8 @@ abbrev pub sent : Bool → ℕ → ℕ → Transmitter → Transmitter
 sent loops room v t =
     cond (nat_lt (filling t) room)
     (cond loops
-    (record { held = t.held; turning = t.turning ++ v ∷ [] })
-    (record { held = t.held ++ v ∷ []; turning = t.turning }))
+    (record t { turning = t.turning ++ v ∷ [] })
+    (record t { held = t.held ++ v ∷ [] }))
     t
 
 -- all bytes vanish
@@ -21,4 +21,4 @@ struck = record { held = []; turning = [] }
 
 -- loop mode ends
 abbrev pub unlooped : Transmitter → Transmitter
-unlooped t = record { held = t.held; turning = [] }
+unlooped t = record t { turning = [] }

@@ -1,15 +1,15 @@
 //! A cable that leads the line back to the chip, and what it does before an access.
 
 ghost use Rattle.std.specs.Prelude.{◌≡◌, ℕ, true, length};
-ghost use Rattle.bench.specs.Cable.{carrying, carried};
+ghost use Rattle.bench.specs.Cable.{came, gone, carrying, carried, ticked};
+ghost use Rattle.bench.specs.Keeping.Carries.{ticked_sound, ticked_moves};
 ghost use Rattle.bench.specs.Receiver.{Room};
 ghost use Rattle.bench.specs.State.{state};
 
 use crate::chip_core::Core;
+use crate::joined::Joined;
 use crate::line::Line;
 use crate::receiver::unmarked;
-
-pub mod joint;
 
 /// The line that holds what left the chip and arrived.
 #[derive(Drop)]
@@ -19,14 +19,14 @@ pub struct Cable {
 
 impl Cable {
     /// Whether a byte can leave, and arrive.
-    pub fn due(&self, core: &Core) -> bool
+    fn due(&self, core: &Core) -> bool
         ensures { result ≡ carrying (state core.now self.now) }
     {
         self.line.has_room() && core.accepts()
     }
 
     /// The oldest held byte leaves, and arrives, if there is one.
-    pub fn carry(&mut self, core: &mut Core)
+    fn carry(&mut self, core: &mut Core)
         requires room { Room core.old.receiver.counts }
         requires due { carrying (state core.old self.old) ≡ true }
         ensures { state core.new self.new ≡ carried core.old.transmitter.held (state core.old self.old) }
@@ -36,4 +36,24 @@ impl Cable {
             core.receiver.reach(core.settings.fifos, unmarked(byte));
         }
     }
+}
+
+impl Joined for Cable {
+    ghost came = { came };
+
+    ghost gone = { gone };
+
+    ghost ticked = { ticked };
+
+    ghost sound = { ticked_sound };
+
+    fn tick(&mut self, core: &mut Core) {
+        if core.settings.looping() {
+            core.turn();
+        } else if self.due(core) {
+            self.carry(core);
+        }
+    }
+
+    ghost moves = { ticked_moves };
 }

@@ -1,6 +1,6 @@
 //! The modem lines, as the modem status register shows them.
 
-ghost use Rattle.bench.specs.Modem.{line_bits, lines as shown_lines, latched, shown, unchanged, still};
+ghost use Rattle.bench.specs.Modem.{line_bits, outputs, lines as shown_lines, latched, shown, unchanged, still};
 ghost use Rattle.std.specs.Prelude.{◌≡◌};
 
 use crate::flag::flag;
@@ -21,18 +21,35 @@ pub struct ModemLines {
     pub carrier_detect: bool,
 }
 
+impl ModemLines {
+    /// The lines in bits 4 to 7.
+    fn bits(self) -> u8
+        ensures { result ≡ line_bits self }
+    {
+        flag(self.clear_to_send, 0x10)
+            | flag(self.data_set_ready, 0x20)
+            | flag(self.ring_indicator, 0x40)
+            | flag(self.carrier_detect, 0x80)
+    }
+
+    /// The outputs of this modem control, as loop mode leads them back.
+    fn outputs(mcr: u8) -> ModemLines
+        ensures { result ≡ outputs mcr }
+    {
+        ModemLines {
+            clear_to_send: contains(mcr, RTS),
+            data_set_ready: contains(mcr, DTR),
+            ring_indicator: contains(mcr, OUT_1),
+            carrier_detect: contains(mcr, OUT_2_INT_ENABLE),
+        }
+    }
+}
+
 /// The lines outside loop mode, and the change bits that no read has cleared.
 #[derive(Clone, Copy)]
 pub struct Modem {
-    pub fixed: u8,
+    pub fixed: ModemLines,
     pub changes: u8,
-}
-
-/// The lines in bits 4 to 7.
-pub fn line_bits(clear_to_send: bool, data_set_ready: bool, ring: bool, carrier: bool) -> u8
-    ensures { result ≡ line_bits clear_to_send data_set_ready ring carrier }
-{
-    flag(clear_to_send, 0x10) | flag(data_set_ready, 0x20) | flag(ring, 0x40) | flag(carrier, 0x80)
 }
 
 impl Modem {
@@ -41,27 +58,17 @@ impl Modem {
         ensures { result ≡ still lines }
     {
         Modem {
-            fixed: line_bits(
-                lines.clear_to_send,
-                lines.data_set_ready,
-                lines.ring_indicator,
-                lines.carrier_detect,
-            ),
+            fixed: lines,
             changes: 0,
         }
     }
 
     /// The lines with this modem control: in loop mode its outputs.
-    fn lines(&self, mcr: u8) -> u8
+    fn lines(&self, mcr: u8) -> ModemLines
         ensures { result ≡ shown_lines self.now mcr }
     {
         if contains(mcr, LOOP_BACK) {
-            line_bits(
-                contains(mcr, RTS),
-                contains(mcr, DTR),
-                contains(mcr, OUT_1),
-                contains(mcr, OUT_2_INT_ENABLE),
-            )
+            ModemLines::outputs(mcr)
         } else {
             self.fixed
         }
@@ -71,8 +78,8 @@ impl Modem {
     pub fn latch(&mut self, old: u8, new: u8)
         ensures { self.new ≡ latched self.old old new }
     {
-        let before = self.lines(old);
-        let after = self.lines(new);
+        let before = self.lines(old).bits();
+        let after = self.lines(new).bits();
         self.changes |= modem_line_changes(before, after);
     }
 
@@ -81,7 +88,7 @@ impl Modem {
         ensures value { result ≡ shown self.old mcr }
         ensures state { self.new ≡ unchanged self.old }
     {
-        let shown = self.lines(mcr) | self.changes;
+        let shown = self.lines(mcr).bits() | self.changes;
         self.changes = 0;
         shown
     }

@@ -6,8 +6,8 @@ ghost use Rattle.bench.specs.Ring.{window};
 use std::marker::Model;
 
 /// The items of a queue: the oldest stands at `from`, the others behind it, and after place 15
-/// comes place 0. An array, since the circular buffers at hand allocate: an access never fails for
-/// want of memory.
+/// comes place 0.
+// An array, since the circular buffers at hand allocate, and no access may fail for want of memory.
 #[derive(Drop)]
 pub struct Ring<T> {
     cells: [T; 16],

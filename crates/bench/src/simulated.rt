@@ -8,12 +8,12 @@ use crate::joined::Joined;
 
 pub mod bench;
 pub mod device;
-pub mod looks;
+pub mod getters;
 pub mod plug;
 
 /// A 16550 with something joined to it.
-// A ghost field, since the fact relates the chip to what is joined to it, and the rules want a
-// proof of it in every state.
+// The fact relates the chip to what is joined to it, so neither type can keep it; and it is a ghost
+// field, since the rules ask of every state that without FIFOs one character waits at most.
 #[derive(Drop)]
 pub struct Simulated<J: Joined> {
     core: Core,

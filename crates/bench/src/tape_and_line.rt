@@ -4,14 +4,14 @@ ghost use Rattle.std.specs.Prelude.{◌≡◌, ℕ, true, length};
 ghost use Rattle.bench.specs.Receiver.{Room};
 ghost use Rattle.bench.specs.Sound.{Sound};
 ghost use Rattle.bench.specs.State.{state};
-ghost use Rattle.bench.specs.TapeAndLine.{came, arriving, arrives, filled, leaving, passed_looping, beaten, aged};
+ghost use Rattle.bench.specs.TapeAndLine.{came, gone, arriving, arrives, filled, leaving, passed_looping, beaten, aged, ticked};
+ghost use Rattle.bench.specs.Keeping.Moves.{ticked_sound, ticked_moves};
 
 use crate::chip_core::Core;
+use crate::joined::Joined;
 use crate::line::Line;
 use crate::pace::Pace;
 use crate::tape::Tape;
-
-pub mod joint;
 
 /// A tape from which characters arrive, a line to which bytes leave, and how often they do.
 #[derive(Drop)]
@@ -40,7 +40,7 @@ impl TapeAndLine {
     }
 
     /// All characters arrive whose time has come.
-    pub fn fill(&mut self, core: &mut Core)
+    fn fill(&mut self, core: &mut Core)
         requires { Sound (length (came self.old)) core.old }
         ensures exact { state core.new self.new ≡ filled (state core.old self.old) }
         ensures sound { Sound (length (came self.new)) core.new }
@@ -62,7 +62,7 @@ impl TapeAndLine {
     }
 
     /// In loop mode the oldest byte comes round on a beat.
-    pub fn pass_looping(&mut self, core: &mut Core)
+    fn pass_looping(&mut self, core: &mut Core)
         requires { Room core.old.receiver.counts }
         ensures { state core.new self.new ≡ passed_looping (state core.old self.old) }
     {
@@ -72,7 +72,7 @@ impl TapeAndLine {
     }
 
     /// Outside loop mode the oldest held byte leaves on a beat, and the access counts for the gaps.
-    pub fn pass(&mut self, core: &mut Core)
+    fn pass(&mut self, core: &mut Core)
         ensures { state core.new self.new ≡ aged (beaten (state core.old self.old)) }
     {
         if self.pace.beat() {
@@ -80,4 +80,26 @@ impl TapeAndLine {
         }
         self.tape.age();
     }
+}
+
+impl Joined for TapeAndLine {
+    ghost came = { came };
+
+    ghost gone = { gone };
+
+    ghost ticked = { ticked };
+
+    ghost sound = { ticked_sound };
+
+    // Leaving comes first.
+    fn tick(&mut self, core: &mut Core) {
+        if core.settings.looping() {
+            self.pass_looping(core);
+        } else {
+            self.pass(core);
+            self.fill(core);
+        }
+    }
+
+    ghost moves = { ticked_moves };
 }

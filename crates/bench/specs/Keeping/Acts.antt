@@ -1,10 +1,10 @@
 -- What each register does is what the rules say.
-use Rattle.std.specs.Prelude.{◌≡◌, ℕ, Bool, true, false, cond, not, ◌&&◌, List, refl}
+use Rattle.std.specs.Prelude.{◌≡◌, ℕ, Bool, cond, not, ◌&&◌, List, refl}
 use Rattle.std.proofs.Common.{sym, ap, ◌∙◌, subst}
 use Rattle.registers.specs.Flags.{contains, fifo_enable, rx_fifo_reset, tx_fifo_reset, loop_back}
 use Rattle.backends.specs.declared.character.Character.{Character}
 use Rattle.backends.specs.Chip.{ChipState, Receiver as RulesReceiver, Transmitter as RulesTransmitter, Setup, is_on, capacity, with_transmitter}
-use Rattle.backends.specs.Rules.{Reads, Writes, Takes, Status, ShowsFifos, struck as rules_struck, unlooped as rules_unlooped, controlled as rules_controlled, switched as rules_switched, reset as rules_reset}
+use Rattle.backends.specs.Rules.{Reads, Writes, Takes, Status, ShowsFifos, unlooped as rules_unlooped, controlled as rules_controlled, switched as rules_switched, reset as rules_reset}
 use Rattle.bench.specs.declared.chip_core.Core.{Core}
 use Rattle.bench.specs.declared.settings.Fifos.{Fifos}
 use Rattle.bench.specs.declared.settings.Fifos.TheVariants.{Absent, Off, On}

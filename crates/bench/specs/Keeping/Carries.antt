@@ -1,5 +1,5 @@
 -- With a cable: what moves before an access keeps the chip sound, and moves as the rules say.
-use Rattle.std.specs.Prelude.{◌≡◌, ℕ, ◌+◌, ◌-◌, true, cond, List, [], ◌∷◌, ◌++◌, length, map, min, refl}
+use Rattle.std.specs.Prelude.{◌≡◌, ℕ, ◌+◌, true, cond, List, [], ◌∷◌, ◌++◌, length, map, min, refl}
 use Rattle.std.proofs.Common.{arith, sym, ap, ◌∙◌, subst}
 use Rattle.std.proofs.lemmas.List.{length-map, length_push, map_push}
 use Rattle.std.proofs.lemmas.Bool.{and_parts, ltb-true, cond_both, cond-true, cond-false}
@@ -8,7 +8,7 @@ use Rattle.backends.specs.Rules.{unmarked, LineMoved, LoopMoved, Moved}
 use Rattle.bench.specs.declared.cable.Cable.{Cable}
 use Rattle.bench.specs.Cable.{came, gone, carrying, carried, ticked}
 use Rattle.bench.specs.Core.{accepting, reaching, turned}
-use Rattle.bench.specs.Kept.{arrived_sound, turned_sound}
+use Rattle.bench.specs.Keeping.Kept.{arrived_sound, turned_sound}
 use Rattle.bench.specs.Line.{room}
 use Rattle.bench.specs.Meaning.{receiver_of}
 use Rattle.bench.specs.Settings.{mode, loops}
@@ -17,7 +17,7 @@ use Rattle.bench.specs.State.{State, state, meaning_of}
 use Rattle.bench.specs.Keeping.Acts.{chip_path}
 use Rattle.bench.specs.Keeping.Reaches.{reach_is}
 use Rattle.bench.specs.Keeping.Rounds.{turned_is}
-use Rattle.bench.specs.Keeping.Sends.{one_gone_is}
+use Rattle.bench.specs.Keeping.Sends.{one_gone_is, none_less}
 
 -- It keeps the chip sound
 
@@ -45,15 +45,7 @@ abbrev meaning : State Cable → ChipState
 meaning p = meaning_of came gone p
 
 none_moved : (m : ChipState) → LineMoved m m
-none_moved m =
-    let t = m.transmitter in
-    let e : t.held ≡ t.held - 0 = omega arith in
-    record {
-      arrivals = [];
-      gone = 0;
-      enough = omega arith;
-      after = ap (λ n. record { receiver = m.receiver; transmitter = record { given = t.given; held = n; turning = t.turning }; setup = m.setup }) e;
-    }
+none_moved m = record { arrivals = []; gone = 0; enough = omega arith; after = none_less m }
 
 carried_moves : (bs : List ℕ) (p : State Cable) → p.core.transmitter.held ≡ bs → LineMoved (meaning p) (meaning (carried bs p))
 carried_moves [] p e = none_moved (meaning p)

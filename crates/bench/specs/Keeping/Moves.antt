@@ -1,5 +1,5 @@
 -- With a tape and a line: what moves before an access keeps the chip sound, and moves as the rules say.
-use Rattle.std.specs.Prelude.{◌≡◌, ℕ, ◌+◌, ◌-◌, ◌≤◌, true, List, [], ◌∷◌, ◌++◌, length, map, refl}
+use Rattle.std.specs.Prelude.{◌≡◌, ℕ, ◌+◌, ◌≤◌, true, List, [], ◌∷◌, ◌++◌, length, map, refl}
 use Rattle.std.proofs.Common.{arith, sym, ap, ◌∙◌, subst}
 use Rattle.std.proofs.lemmas.List.{length-map, length_push, map_push}
 use Rattle.std.proofs.lemmas.Bool.{and_parts, ltb-true, cond_both, cond-true, cond-false}
@@ -9,7 +9,7 @@ use Rattle.backends.specs.Rules.{arrive, LineMoved, LoopMoved, Moved}
 use Rattle.bench.specs.declared.tape.TapeEntry.{TapeEntry}
 use Rattle.bench.specs.declared.tape_and_line.TapeAndLine.{TapeAndLine}
 use Rattle.bench.specs.Core.{accepting, reaching, turned}
-use Rattle.bench.specs.Kept.{arrived_sound, turned_sound}
+use Rattle.bench.specs.Keeping.Kept.{arrived_sound, turned_sound}
 use Rattle.bench.specs.Line.{room}
 use Rattle.bench.specs.Meaning.{chip_of, receiver_of}
 use Rattle.bench.specs.Pace.{beats}
@@ -21,7 +21,7 @@ use Rattle.bench.specs.TapeAndLine.{came, gone, arriving, arrives, fills, filled
 use Rattle.bench.specs.Keeping.Acts.{chip_path}
 use Rattle.bench.specs.Keeping.Reaches.{reach_is}
 use Rattle.bench.specs.Keeping.Rounds.{none_round, turned_is}
-use Rattle.bench.specs.Keeping.Sends.{one_gone_is}
+use Rattle.bench.specs.Keeping.Sends.{one_gone_is, lessened, none_less}
 
 -- It keeps the chip sound
 
@@ -78,7 +78,7 @@ looping_moves p =
 
 -- these arrive at a chip
 abbrev arrived : List Character → ChipState → ChipState
-arrived cs m = record { receiver = arrive m.setup.fifos cs m.receiver; transmitter = m.transmitter; setup = m.setup }
+arrived cs m = record m { receiver = arrive m.setup.fifos cs m.receiver }
 
 abbrev Arrived : ChipState → ChipState → Type 0
 Arrived m n = (cs : List Character) × (n ≡ arrived cs m)
@@ -100,17 +100,11 @@ fills_is (e ∷ es) p =
 
 -- Outside loop mode: bytes leave
 
--- n of the held bytes leave a chip
-abbrev lessened : ℕ → ChipState → ChipState
-lessened n m = with_transmitter m (record { given = m.transmitter.given; held = m.transmitter.held - n; turning = m.transmitter.turning })
-
 abbrev Left : ChipState → ChipState → Type 0
 Left m n = (k : ℕ) × (k ≤ m.transmitter.held) × (n ≡ lessened k m)
 
 none_left : (m : ChipState) → Left m m
-none_left m =
-    let e : m.transmitter.held ≡ m.transmitter.held - 0 = omega arith in
-    (0, omega arith, ap (λ n. with_transmitter m (record { given = m.transmitter.given; held = n; turning = m.transmitter.turning })) e)
+none_left m = (0, omega arith, none_less m)
 
 leaves_is : (bs : List ℕ) (p : State TapeAndLine) → p.core.transmitter.held ≡ bs → Left (meaning p) (meaning (leaves bs p))
 leaves_is [] p e = none_left (meaning p)

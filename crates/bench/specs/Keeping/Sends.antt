@@ -1,8 +1,8 @@
 -- The transmitter's steps are the rules' steps of what it means.
-use Rattle.std.specs.Prelude.{◌≡◌, ℕ, ◌+◌, ◌-◌, Bool, List, [], ◌∷◌, ◌++◌, length, nat_lt, refl}
-use Rattle.std.proofs.Common.{arith, append_assoc, append-nil, sym, ◌∙◌, length-append}
+use Rattle.std.specs.Prelude.{◌≡◌, ℕ, ◌-◌, Bool, List, [], ◌∷◌, ◌++◌, length, nat_lt, refl}
+use Rattle.std.proofs.Common.{arith, append_assoc, append-nil, sym, ap, ◌∙◌, length-append}
 use Rattle.std.proofs.lemmas.List.{length_push, take_at}
-use Rattle.backends.specs.Chip.{Transmitter as RulesTransmitter}
+use Rattle.backends.specs.Chip.{ChipState, Transmitter as RulesTransmitter, with_transmitter}
 use Rattle.backends.specs.Rules.{sent as rules_sent, struck as rules_struck}
 use Rattle.bench.specs.declared.transmitter.Transmitter.{Transmitter}
 use Rattle.bench.specs.Meaning.{transmitter_of}
@@ -33,3 +33,11 @@ pub one_gone_is : (g : List ℕ) (b : ℕ) (bs turning : List ℕ)
     → transmitter_of (g ++ b ∷ []) (record { held = bs; turning = turning })
     ≡ record { given = g ++ b ∷ bs; held = length (b ∷ bs) - 1; turning = turning }
 one_gone_is g b bs turning = transmitter_path _ _ _ _ _ (append_assoc g (b ∷ []) bs) (omega arith)
+
+-- n of the held bytes leave a chip
+abbrev pub lessened : ℕ → ChipState → ChipState
+lessened n m = with_transmitter m (record m.transmitter { held = m.transmitter.held - n })
+
+-- none leaves
+pub none_less : (m : ChipState) → m ≡ lessened 0 m
+none_less m = let e : m.transmitter.held ≡ m.transmitter.held - 0 = omega arith in ap (λ n. with_transmitter m (record m.transmitter { held = n })) e

@@ -3,9 +3,8 @@
 ghost use Rattle.std.specs.Prelude.{◌≡◌, ℕ, ◌-◌, map, vec_len};
 ghost use Rattle.bench.specs.Line.{empty_line};
 ghost use Rattle.bench.specs.Making.{Made};
-ghost use Rattle.bench.specs.State.{state, meaning_of};
+ghost use Rattle.bench.specs.Meaning.{left};
 ghost use Rattle.bench.specs.Tape.{unplayed};
-ghost use Rattle.bench.specs.TapeAndLine.{came, gone};
 
 use crate::chip_core::Core;
 use crate::line::Line;
@@ -14,6 +13,7 @@ use crate::pace::Pace;
 use crate::simulated::Simulated;
 use crate::tape::{Tape, TapeEntry};
 use crate::tape_and_line::TapeAndLine;
+use backends::Chip;
 
 /// A 16550 that receives what stands on a tape, and sends into a store.
 pub type Bench = Simulated<TapeAndLine>;
@@ -55,14 +55,14 @@ impl Simulated<TapeAndLine> {
 
     /// The tape's entries that have arrived, in their order.
     pub fn arrived(&self) -> &[TapeEntry]
-        ensures { map (λ e. e.character) result.now ≡ (meaning_of came gone (state self.now.core self.now.joined)).receiver.arrived }
+        ensures { map (λ e. e.character) result.now ≡ (⟦<Bench as Chip>⟧.meaning self.now).receiver.arrived }
     {
         self.joined.tape.arrived()
     }
 
     /// The bytes that have left for the line, in their order: those given but for the held ones.
     pub fn left(&self) -> &[u8]
-        ensures { result.now ≡ gone self.now.joined }
+        ensures { result.now ≡ left (⟦<Bench as Chip>⟧.meaning self.now).transmitter }
     {
         self.joined.line.bytes()
     }

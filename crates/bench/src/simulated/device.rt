@@ -2,7 +2,7 @@
 
 ghost use Rattle.std.specs.Prelude.{length};
 ghost use Rattle.bench.specs.Core.{answer};
-ghost use Rattle.bench.specs.Kept.{answered_sound, written_sound};
+ghost use Rattle.bench.specs.Keeping.Kept.{answered_sound, written_sound};
 ghost use Rattle.bench.specs.State.{State, state, meaning_of, read, write};
 ghost use Rattle.bench.specs.Keeping.Chips.{keeps_reading, keeps_writing};
 ghost use Rattle.bench.specs.Keeping.Single.{single_waits};

@@ -2,16 +2,15 @@
 
 ghost use Rattle.std.specs.Prelude.{◌≡◌, ℕ, true, map, vec_len};
 ghost use Rattle.backends.specs.Rules.{unmarked};
-ghost use Rattle.bench.specs.Cable.{came, gone};
 ghost use Rattle.bench.specs.Line.{empty_line};
 ghost use Rattle.bench.specs.Making.{Made};
-ghost use Rattle.bench.specs.State.{state, meaning_of};
 
 use crate::cable::Cable;
 use crate::chip_core::Core;
 use crate::line::Line;
 use crate::modem::ModemLines;
 use crate::simulated::Simulated;
+use backends::Chip;
 
 /// A 16550 that receives each byte that leaves it, on the same access.
 pub type Plug = Simulated<Cable>;
@@ -33,7 +32,7 @@ impl Simulated<Cable> {
 
     /// The bytes that have left, and arrived, in their order.
     pub fn carried(&self) -> &[u8]
-        ensures { map unmarked result.now ≡ (meaning_of came gone (state self.now.core self.now.joined)).receiver.arrived }
+        ensures { map unmarked result.now ≡ (⟦<Plug as Chip>⟧.meaning self.now).receiver.arrived }
     {
         self.joined.line.bytes()
     }

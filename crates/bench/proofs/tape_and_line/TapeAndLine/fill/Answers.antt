@@ -1,4 +1,4 @@
-use Rattle.std.proofs.Common.{◌≡◌, ◌<◌, length, refl, sym, ap, ◌∙◌, subst}
+use Rattle.std.proofs.Common.{◌<◌, length, refl, sym, ap, ◌∙◌, subst}
 use Rattle.bench.specs.Sound.{Sound}
 use Rattle.bench.specs.State.{State, state}
 use Rattle.bench.specs.TapeAndLine.{came, filled}

@@ -1,10 +1,8 @@
 use Rattle.std.proofs.Common.{length, sym, ap, ◌∙◌, subst, arith}
 use Rattle.std.proofs.lemmas.Bool.{lt-ltb}
-use Rattle.bench.specs.Core.{answer, answered}
-use Rattle.bench.specs.Kept.{answered_sound}
-use Rattle.bench.specs.Sound.{Sound}
+use Rattle.bench.specs.Keeping.Kept.{answered_sound}
 use Rattle.bench.specs.State.{state, read}
-use Rattle.bench.proofs.Sames.{IsSound, same_simulated}
+use Rattle.bench.proofs.Equal.{IsSound, same_simulated}
 use Rattle.bench.proofs.simulated.device.SimulatedBackend.read.Goals as goal
 
 pub invariant_of-self : goal.invariant_of-self

@@ -1,9 +1,8 @@
 use Rattle.std.proofs.Common.{length, sym, ap, ◌∙◌, subst, arith}
 use Rattle.std.proofs.lemmas.Bool.{lt-ltb}
-use Rattle.bench.specs.Core.{written}
-use Rattle.bench.specs.Kept.{written_sound}
+use Rattle.bench.specs.Keeping.Kept.{written_sound}
 use Rattle.bench.specs.State.{state, write}
-use Rattle.bench.proofs.Sames.{IsSound, same_simulated}
+use Rattle.bench.proofs.Equal.{IsSound, same_simulated}
 use Rattle.bench.proofs.simulated.device.SimulatedBackend.write.Goals as goal
 
 pub invariant_of-self : goal.invariant_of-self

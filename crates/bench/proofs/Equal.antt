@@ -1,13 +1,11 @@
--- Simulated chips.
-use Rattle.std.proofs.Common.{◌≡◌, ℕ, length, sym, subst}
+-- When two simulated chips are one.
+use Rattle.std.proofs.Common.{◌≡◌, length}
 use denote.Struct.Props.{props}
 use mathlib.Core.HLevel.{is_prop→PathP}
-use Rattle.bench.specs.declared.chip_core.Core.{Core}
 use Rattle.bench.specs.declared.joined.Joined.{Ghosts}
 use Rattle.bench.specs.declared.simulated.Simulated.{Simulated}
-use Rattle.bench.specs.Kept.{answered_sound, written_sound}
 use Rattle.bench.specs.Sound.{Sound}
-use Rattle.bench.specs.State.{State, state, read, write}
+use Rattle.bench.specs.State.{State, state}
 
 module _ {J : Type 0} (G : Ghosts J) where
   abbrev pub IsSound : State J → Type 0
