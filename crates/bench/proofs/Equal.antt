@@ -5,7 +5,8 @@ use mathlib.Core.HLevel.{is_prop→PathP}
 use Rattle.bench.specs.declared.joined.Joined.{Ghosts}
 use Rattle.bench.specs.declared.simulated.Simulated.{Simulated}
 use Rattle.bench.specs.Sound.{Sound}
-use Rattle.bench.specs.State.{State, state}
+use Rattle.bench.specs.Simulated.{state_of}
+use Rattle.bench.specs.State.{State}
 
 module _ {J : Type 0} (G : Ghosts J) where
   abbrev pub IsSound : State J → Type 0
@@ -15,5 +16,5 @@ module _ {J : Type 0} (G : Ghosts J) where
   sound_prop p = hlevel props
 
   -- with the same chip and what is joined to it, two are one
-  pub same_simulated : (a b : Simulated J G) → state a.core a.joined ≡ state b.core b.joined → a ≡ b
+  pub same_simulated : (a b : Simulated J G) → state_of G a ≡ state_of G b → a ≡ b
   same_simulated a b e = λ i. record { core = (e i).core; joined = (e i).joined; ok = is_prop→PathP (λ k. IsSound (e k)) (λ k. sound_prop (e k)) a.ok b.ok i }

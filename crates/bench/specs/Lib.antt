@@ -13,6 +13,7 @@ pub mod Sound
 pub mod Meaning
 pub mod Making
 pub mod State
+pub mod Simulated
 pub mod TapeAndLine
 pub mod Cable
 pub mod Keeping

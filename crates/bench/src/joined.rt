@@ -11,15 +11,16 @@ use crate::chip_core::Core;
 /// What is joined to a chip: before each access it lets characters arrive at the chip, and bytes
 /// leave it, as the rules say.
 pub trait Joined: Drop {
-    // the characters that have come, and the bytes that have left
+    // the characters that have come from the line
     ghost came: { Self → List Character };
 
+    // the bytes that have left for it
     ghost gone: { Self → List ℕ };
 
-    // the chip, and what is joined to it, when an access acts
+    // the chip and what is joined to it, when an access acts
     ghost ticked: { State Self → State Self };
 
-    // it keeps the chip sound
+    // the chip stays sound: not among the laws below, since the device's states are made with it
     ghost sound: { (s : State Self) → Sound (length (came s.joined)) s.core → Sound (length (came (ticked s).joined)) (ticked s).core };
 
     /// What happens before an access acts.

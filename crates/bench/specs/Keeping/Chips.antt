@@ -1,20 +1,20 @@
--- A simulated chip keeps the rules.
-use Rattle.std.specs.Prelude.{ℕ, List}
-use Rattle.backends.specs.declared.character.Character.{Character}
-use Rattle.backends.specs.Rules.{Moved, Reading, Writing}
-use Rattle.bench.specs.Core.{answer}
-use Rattle.bench.specs.State.{State, meaning_of, read, write}
+-- A simulated chip keeps the rules, if what is joined to it moves it as they say.
+use Rattle.backends.specs.Rules.{Moved, KeepsRules}
+use Rattle.bench.specs.declared.joined.Joined.{Ghosts}
+use Rattle.bench.specs.Simulated.{state_of, simulated_device, simulated_meaning}
+use Rattle.bench.specs.State.{State, meaning_of}
 use Rattle.bench.specs.Keeping.Acts.{reads_act, writes_act}
+use Rattle.bench.specs.Keeping.Single.{single_waits}
 
--- what is joined to the chip moves it as the rules say, and then the register acts
-module _ {J : Type 0} (came : J → List Character) (gone : J → List ℕ) (ticked : State J → State J)
-    (moves : (s : State J) → Moved (meaning_of came gone s) (meaning_of came gone (ticked s))) where
-  pub keeps_reading : (s : State J) (k : ℕ) → Reading (meaning_of came gone s) k (answer (ticked s).core k) (meaning_of came gone (read (ticked s) k))
-  keeps_reading s k =
-      let t = ticked s in
-      record { mid = meaning_of came gone t; before = moves s; acts = reads_act (came t.joined) (gone t.joined) t.core k }
-
-  pub keeps_writing : (s : State J) (k v : ℕ) → Writing (meaning_of came gone s) k v (meaning_of came gone (write (ticked s) k v))
-  keeps_writing s k v =
-      let t = ticked s in
-      record { mid = meaning_of came gone t; before = moves s; acts = writes_act (came t.joined) (gone t.joined) t.core k v }
+pub simulated_keeps : {J : Type 0} (G : Ghosts J)
+    → ((s : State J) → Moved (meaning_of G.came G.gone s) (meaning_of G.came G.gone (G.ticked s)))
+    → KeepsRules (simulated_device G) (simulated_meaning G)
+simulated_keeps G moves = record {
+  reading = λ s k l.
+      let t = G.ticked (state_of G s) in
+      record { mid = meaning_of G.came G.gone t; before = moves (state_of G s); acts = reads_act (G.came t.joined) (G.gone t.joined) t.core k };
+  writing = λ s k v l.
+      let t = G.ticked (state_of G s) in
+      record { mid = meaning_of G.came G.gone t; before = moves (state_of G s); acts = writes_act (G.came t.joined) (G.gone t.joined) t.core k v };
+  single = λ s e. single_waits s.core s.ok.1 e;
+}
