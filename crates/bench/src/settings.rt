@@ -68,7 +68,7 @@ impl Settings {
             mcr: 0,
             dll: 0,
             dlm: 0,
-            scratch: if scratch { Some(0) } else { None },
+            scratch: scratch.then_some(0),
             fifos: if fifos { Fifos::Off } else { Fifos::Absent },
         }
     }
@@ -91,18 +91,15 @@ impl Settings {
     pub fn scratch(&self) -> u8
         ensures { result ≡ scratch_byte self.now.scratch }
     {
-        match self.scratch {
-            None => 0xFF,
-            Some(byte) => byte,
-        }
+        self.scratch.unwrap_or(0xFF)
     }
 
     /// The scratch register is written.
     pub fn keep_scratch(&mut self, byte: u8)
         ensures { self.new ≡ scratch_kept byte self.old }
     {
-        if self.scratch.is_some() {
-            self.scratch = Some(byte);
+        if let Some(kept) = &mut self.scratch {
+            *kept = byte;
         }
     }
 }
