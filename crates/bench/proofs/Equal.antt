@@ -1,20 +1,16 @@
 -- When two simulated chips are one.
-use Rattle.std.proofs.Common.{◌≡◌, length}
+use Rattle.std.proofs.Common.{◌≡◌}
 use denote.Struct.Props.{props}
 use mathlib.Core.HLevel.{is_prop→PathP}
 use Rattle.bench.specs.declared.joined.Joined.{Ghosts}
 use Rattle.bench.specs.declared.simulated.Simulated.{Simulated}
-use Rattle.bench.specs.Sound.{Sound}
 use Rattle.bench.specs.Simulated.{state_of}
-use Rattle.bench.specs.State.{State}
+use Rattle.bench.specs.State.{State, IsSound}
 
 module _ {J : Type 0} (G : Ghosts J) where
-  abbrev pub IsSound : State J → Type 0
-  IsSound p = Sound (length (G.came p.joined)) p.core
-
-  sound_prop : (p : State J) → IsProp (IsSound p)
+  sound_prop : (p : State J) → IsProp (IsSound G.came p)
   sound_prop p = hlevel props
 
   -- with the same chip and what is joined to it, two are one
   pub same_simulated : (a b : Simulated J G) → state_of G a ≡ state_of G b → a ≡ b
-  same_simulated a b e = λ i. record { core = (e i).core; joined = (e i).joined; ok = is_prop→PathP (λ k. IsSound (e k)) (λ k. sound_prop (e k)) a.ok b.ok i }
+  same_simulated a b e = λ i. record { core = (e i).core; joined = (e i).joined; ok = is_prop→PathP (λ k. IsSound G.came (e k)) (λ k. sound_prop (e k)) a.ok b.ok i }

@@ -7,8 +7,7 @@ use Rattle.backends.specs.Chip.{Fifos, is_on, capacity}
 use Rattle.backends.specs.Rules.{first, joining, next_first, overrun}
 use Rattle.bench.specs.declared.receiver.Receiver.{Receiver}
 
--- the mark counts can grow by one; the receiver itself cannot keep this: they stay small since few characters come, and
--- what is joined to the chip knows how many did
+-- the mark counts can grow by one
 abbrev pub Room : Counts → Type 0
 Room n = (n.parity + 1 < 2 ^ 64) × (n.framing + 1 < 2 ^ 64) × (n.broken + 1 < 2 ^ 64)
 

@@ -1,10 +1,11 @@
 -- A chip and what is joined to it.
-use Rattle.std.specs.Prelude.{ℕ, List}
+use Rattle.std.specs.Prelude.{ℕ, List, length}
 use Rattle.backends.specs.declared.character.Character.{Character}
 use Rattle.backends.specs.Chip.{ChipState}
 use Rattle.bench.specs.declared.chip_core.Core.{Core}
 use Rattle.bench.specs.Core.{answered, written}
 use Rattle.bench.specs.Meaning.{chip_of}
+use Rattle.bench.specs.Sound.{Sound}
 
 pub record State (J : Type 0) : Type 0 where
   pub core : Core
@@ -12,6 +13,10 @@ pub record State (J : Type 0) : Type 0 where
 
 abbrev pub state : {J : Type 0} → Core → J → State J
 state s j = record { core = s; joined = j }
+
+-- the chip is sound, by the characters that have come
+abbrev pub IsSound : {J : Type 0} → (J → List Character) → State J → Type 0
+IsSound came s = Sound (length (came s.joined)) s.core
 
 -- what it means, by the characters that have come and the bytes that have left
 abbrev pub meaning_of : {J : Type 0} → (J → List Character) → (J → List ℕ) → State J → ChipState

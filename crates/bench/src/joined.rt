@@ -1,10 +1,9 @@
 //! What is joined to a chip.
 
-ghost use Rattle.std.specs.Prelude.{◌≡◌, ℕ, List, length};
+ghost use Rattle.std.specs.Prelude.{◌≡◌, ℕ, List};
 ghost use Rattle.backends.specs.declared.character.Character.{Character};
 ghost use Rattle.backends.specs.Rules.{Moved};
-ghost use Rattle.bench.specs.Sound.{Sound};
-ghost use Rattle.bench.specs.State.{State, state, meaning_of};
+ghost use Rattle.bench.specs.State.{State, state, IsSound, meaning_of};
 
 use crate::chip_core::Core;
 
@@ -21,11 +20,11 @@ pub trait Joined: Drop {
     ghost ticked: { State Self → State Self };
 
     // the chip stays sound: not among the laws below, since the device's states are made with it
-    ghost sound: { (s : State Self) → Sound (length (came s.joined)) s.core → Sound (length (came (ticked s).joined)) (ticked s).core };
+    ghost sound: { (s : State Self) → IsSound came s → IsSound came (ticked s) };
 
     /// What happens before an access acts.
     fn tick(&mut self, core: &mut Core)
-        requires { Sound (length (came self.old)) core.old }
+        requires { IsSound came (state core.old self.old) }
         ensures { state core.new self.new ≡ ticked (state core.old self.old) };
 
     ghost moves: { (s : State Self) → Moved (meaning_of came gone s) (meaning_of came gone (ticked s)) };

@@ -58,6 +58,8 @@ fn marked(c: Character) -> bool
     c.parity || c.framing || c.broken
 }
 
+// Callers show that the mark counts can grow: it follows from how few characters came, which the
+// receiver does not know.
 impl Receiver {
     /// A character reaches the receiver.
     pub fn reach(&mut self, fifos: Fifos, c: Character)

@@ -1,7 +1,6 @@
 //! A simulated chip, with something joined to it.
 
-ghost use Rattle.std.specs.Prelude.{length};
-ghost use Rattle.bench.specs.Sound.{Sound};
+ghost use Rattle.bench.specs.State.{state, IsSound};
 
 use crate::chip_core::Core;
 use crate::joined::Joined;
@@ -18,5 +17,5 @@ pub mod plug;
 pub struct Simulated<J: Joined> {
     core: Core,
     joined: J,
-    ghost ok: { Sound (length (J.came joined)) core },
+    ghost ok: { IsSound J.came (state core joined) },
 }

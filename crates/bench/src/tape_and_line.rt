@@ -2,8 +2,7 @@
 
 ghost use Rattle.std.specs.Prelude.{◌≡◌, ℕ, true, length};
 ghost use Rattle.bench.specs.Receiver.{Room};
-ghost use Rattle.bench.specs.Sound.{Sound};
-ghost use Rattle.bench.specs.State.{state};
+ghost use Rattle.bench.specs.State.{state, IsSound};
 ghost use Rattle.bench.specs.TapeAndLine.{came, gone, arriving, arrives, filled, leaving, passed_looping, beaten, aged, ticked};
 ghost use Rattle.bench.specs.Keeping.Moves.{ticked_sound, ticked_moves};
 
@@ -41,9 +40,9 @@ impl TapeAndLine {
 
     /// All characters arrive whose time has come.
     fn fill(&mut self, core: &mut Core)
-        requires { Sound (length (came self.old)) core.old }
+        requires { IsSound came (state core.old self.old) }
         ensures exact { state core.new self.new ≡ filled (state core.old self.old) }
-        ensures sound { Sound (length (came self.new)) core.new }
+        ensures sound { IsSound came (state core.new self.new) }
     {
         while self.due(core) {
             self.arrive(core);

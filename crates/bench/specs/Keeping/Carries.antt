@@ -2,9 +2,9 @@
 use Rattle.std.specs.Prelude.{◌≡◌, ℕ, ◌+◌, true, cond, List, [], ◌∷◌, ◌++◌, length, map, min, refl}
 use Rattle.std.proofs.Common.{arith, sym, ap, ◌∙◌, subst}
 use Rattle.std.proofs.lemmas.List.{length-map, length_push, map_push}
-use Rattle.std.proofs.lemmas.Bool.{and_parts, ltb-true, cond_both, cond-true, cond-false}
+use Rattle.std.proofs.lemmas.Bool.{and_parts, ltb-true, cond_both}
 use Rattle.backends.specs.Chip.{ChipState}
-use Rattle.backends.specs.Rules.{unmarked, LineMoved, LoopMoved, Moved}
+use Rattle.backends.specs.Rules.{unmarked, LineMoved, Moved}
 use Rattle.bench.specs.declared.cable.Cable.{Cable}
 use Rattle.bench.specs.Cable.{came, gone, carrying, carried, ticked}
 use Rattle.bench.specs.Core.{accepting, reaching, turned}
@@ -13,18 +13,15 @@ use Rattle.bench.specs.Line.{room}
 use Rattle.bench.specs.Meaning.{receiver_of}
 use Rattle.bench.specs.Settings.{mode, loops}
 use Rattle.bench.specs.Sound.{Sound}
-use Rattle.bench.specs.State.{State, state, meaning_of}
+use Rattle.bench.specs.State.{State, state, IsSound, meaning_of}
 use Rattle.bench.specs.Keeping.Acts.{chip_path}
 use Rattle.bench.specs.Keeping.Reaches.{reach_is}
-use Rattle.bench.specs.Keeping.Rounds.{turned_is}
+use Rattle.bench.specs.Keeping.Rounds.{moved_by, turned_is}
 use Rattle.bench.specs.Keeping.Sends.{one_gone_is, none_less}
 
 -- It keeps the chip sound
 
-abbrev IsSound : State Cable → Type 0
-IsSound p = Sound (length (came p.joined)) p.core
-
-carried_sound : (bs : List ℕ) (p : State Cable) → carrying p ≡ true → IsSound p → IsSound (carried bs p)
+carried_sound : (bs : List ℕ) (p : State Cable) → carrying p ≡ true → IsSound came p → IsSound came (carried bs p)
 carried_sound [] p r h = h
 carried_sound (b ∷ bs) p r h =
     let l = p.joined.line in
@@ -33,11 +30,11 @@ carried_sound (b ∷ bs) p r h =
     subst (λ m. Sound m (carried (b ∷ bs) p).core) (sym n)
     (arrived_sound (unmarked b) (length (map unmarked l.gone)) p.core (omega (arith, length-map l.gone unmarked)) h)
 
-pub ticked_sound : (p : State Cable) → IsSound p → IsSound (ticked p)
+pub ticked_sound : (p : State Cable) → IsSound came p → IsSound came (ticked p)
 ticked_sound p h =
-    cond_both (loops p.core.settings) (state (turned p.core) p.joined) _ IsSound
+    cond_both (loops p.core.settings) (state (turned p.core) p.joined) _ (IsSound came)
     (λ _. turned_sound (length (came p.joined)) p.core h)
-    (λ _. cond_both (carrying p) (carried p.core.transmitter.held p) p IsSound (λ e. carried_sound p.core.transmitter.held p e h) (λ _. h))
+    (λ _. cond_both (carrying p) (carried p.core.transmitter.held p) p (IsSound came) (λ e. carried_sound p.core.transmitter.held p e h) (λ _. h))
 
 -- It moves as the rules say
 
@@ -68,10 +65,5 @@ line_moves p =
 
 pub ticked_moves : (p : State Cable) → Moved (meaning p) (meaning (ticked p))
 ticked_moves p =
-    let a = state (turned p.core) p.joined in
-    let b = cond (carrying p) (carried p.core.transmitter.held p) p in
-    record {
-      line = λ e. subst (λ q. LineMoved (meaning p) (meaning q)) (sym (cond-false (loops p.core.settings) a b e)) (line_moves p);
-      loop = λ e. subst (λ q. LoopMoved (meaning p) (meaning q)) (sym (cond-true (loops p.core.settings) a b e))
-          (turned_is (came p.joined) (gone p.joined) p.core);
-    }
+    moved_by came gone p (state (turned p.core) p.joined) (cond (carrying p) (carried p.core.transmitter.held p) p)
+    (turned_is (came p.joined) (gone p.joined) p.core) (line_moves p)

@@ -2,7 +2,7 @@
 use Rattle.std.specs.Prelude.{◌≡◌, ℕ, ◌+◌, ◌≤◌, true, List, [], ◌∷◌, ◌++◌, length, map, refl}
 use Rattle.std.proofs.Common.{arith, sym, ap, ◌∙◌, subst}
 use Rattle.std.proofs.lemmas.List.{length-map, length_push, map_push}
-use Rattle.std.proofs.lemmas.Bool.{and_parts, ltb-true, cond_both, cond-true, cond-false}
+use Rattle.std.proofs.lemmas.Bool.{and_parts, ltb-true, cond_both}
 use Rattle.backends.specs.declared.character.Character.{Character}
 use Rattle.backends.specs.Chip.{ChipState, with_transmitter}
 use Rattle.backends.specs.Rules.{arrive, LineMoved, LoopMoved, Moved}
@@ -15,20 +15,17 @@ use Rattle.bench.specs.Meaning.{chip_of, receiver_of}
 use Rattle.bench.specs.Pace.{beats}
 use Rattle.bench.specs.Settings.{mode, loops}
 use Rattle.bench.specs.Sound.{Sound}
-use Rattle.bench.specs.State.{State, state, meaning_of}
+use Rattle.bench.specs.State.{State, state, IsSound, meaning_of}
 use Rattle.bench.specs.Tape.{over, due}
 use Rattle.bench.specs.TapeAndLine.{came, gone, arriving, arrives, fills, filled, leaves, leaving, paced, passed_looping, beaten, aged, ticked}
 use Rattle.bench.specs.Keeping.Acts.{chip_path}
 use Rattle.bench.specs.Keeping.Reaches.{reach_is}
-use Rattle.bench.specs.Keeping.Rounds.{none_round, turned_is}
+use Rattle.bench.specs.Keeping.Rounds.{moved_by, none_round, turned_is}
 use Rattle.bench.specs.Keeping.Sends.{one_gone_is, lessened, none_less}
 
 -- It keeps the chip sound
 
-abbrev IsSound : State TapeAndLine → Type 0
-IsSound p = Sound (length (came p.joined)) p.core
-
-pub arrives_sound : (es : List TapeEntry) (p : State TapeAndLine) → arriving p ≡ true → IsSound p → IsSound (arrives es p)
+pub arrives_sound : (es : List TapeEntry) (p : State TapeAndLine) → arriving p ≡ true → IsSound came p → IsSound came (arrives es p)
 arrives_sound [] p r h = h
 arrives_sound (e ∷ es) p r h =
     let t = p.joined.tape in
@@ -38,28 +35,28 @@ arrives_sound (e ∷ es) p r h =
     subst (λ m. Sound m (arrives (e ∷ es) p).core) (sym n)
     (arrived_sound e.character (length (map f t.came)) p.core (omega (arith, length-map t.came f)) h)
 
-fills_sound : (es : List TapeEntry) (p : State TapeAndLine) → IsSound p → IsSound (fills es p)
+fills_sound : (es : List TapeEntry) (p : State TapeAndLine) → IsSound came p → IsSound came (fills es p)
 unfolding fills
 fills_sound [] p h = h
 fills_sound (e ∷ es) p h =
-    cond_both (arriving p) (fills es (arrives (e ∷ es) p)) p IsSound
+    cond_both (arriving p) (fills es (arrives (e ∷ es) p)) p (IsSound came)
     (λ r. fills_sound es (arrives (e ∷ es) p) (arrives_sound (e ∷ es) p r h)) (λ _. h)
 
-leaves_sound : (bs : List ℕ) (p : State TapeAndLine) → IsSound p → IsSound (leaves bs p)
+leaves_sound : (bs : List ℕ) (p : State TapeAndLine) → IsSound came p → IsSound came (leaves bs p)
 leaves_sound [] p h = h
 leaves_sound (b ∷ bs) p h = h
 
-pub beaten_sound : (p : State TapeAndLine) → IsSound p → IsSound (beaten p)
+pub beaten_sound : (p : State TapeAndLine) → IsSound came p → IsSound came (beaten p)
 beaten_sound p h =
     let q = state p.core (paced p.joined) in
-    cond_both (beats p.joined.pace) (leaving q) q IsSound
-    (λ _. cond_both (room p.joined.line) (leaves p.core.transmitter.held q) q IsSound
+    cond_both (beats p.joined.pace) (leaving q) q (IsSound came)
+    (λ _. cond_both (room p.joined.line) (leaves p.core.transmitter.held q) q (IsSound came)
     (λ _. leaves_sound p.core.transmitter.held q h) (λ _. h)) (λ _. h)
 
-pub ticked_sound : (p : State TapeAndLine) → IsSound p → IsSound (ticked p)
+pub ticked_sound : (p : State TapeAndLine) → IsSound came p → IsSound came (ticked p)
 ticked_sound p h =
     let q = aged (beaten p) in
-    cond_both (loops p.core.settings) (passed_looping p) (filled q) IsSound
+    cond_both (loops p.core.settings) (passed_looping p) (filled q) (IsSound came)
     (λ _. cond_both (beats p.joined.pace) (turned p.core) p.core (λ s. Sound (length (came p.joined)) s)
     (λ _. turned_sound (length (came p.joined)) p.core h) (λ _. h))
     (λ _. fills_sound q.joined.tape.coming q (beaten_sound p h))
@@ -130,10 +127,4 @@ line_moves p =
     record { arrivals = a.0; gone = l.0; enough = l.1; after = a.1 ∙ ap (λ m. arrived a.0 m) l.2 }
 
 pub ticked_moves : (p : State TapeAndLine) → Moved (meaning p) (meaning (ticked p))
-ticked_moves p =
-    let a = passed_looping p in
-    let b = filled (aged (beaten p)) in
-    record {
-      line = λ e. subst (λ q. LineMoved (meaning p) (meaning q)) (sym (cond-false (loops p.core.settings) a b e)) (line_moves p);
-      loop = λ e. subst (λ q. LoopMoved (meaning p) (meaning q)) (sym (cond-true (loops p.core.settings) a b e)) (looping_moves p);
-    }
+ticked_moves p = moved_by came gone p (passed_looping p) (filled (aged (beaten p))) (looping_moves p) (line_moves p)

@@ -31,7 +31,7 @@ pub struct BenchOptions {
     pub lines: ModemLines,
 }
 
-impl Simulated<TapeAndLine> {
+impl Bench {
     /// A chip with all registers at 0, before its first access. The store has room for as many bytes
     /// as it is long; of the tape and of the store the first 65,535 entries are in use.
     pub fn new(options: BenchOptions, tape: Vec<TapeEntry>, store: Vec<u8>) -> Bench

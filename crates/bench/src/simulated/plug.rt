@@ -15,7 +15,7 @@ use backends::Chip;
 /// A 16550 that receives each byte that leaves it, on the same access.
 pub type Plug = Simulated<Cable>;
 
-impl Simulated<Cable> {
+impl Plug {
     /// A chip with FIFOs and a scratch register, all registers at 0. The line carries as many bytes
     /// as the store is long, at most 65,535, and then stops.
     pub fn new(lines: ModemLines, store: Vec<u8>) -> Plug

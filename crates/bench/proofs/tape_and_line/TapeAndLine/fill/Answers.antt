@@ -1,6 +1,5 @@
 use Rattle.std.proofs.Common.{◌<◌, length, refl, sym, ap, ◌∙◌, subst}
-use Rattle.bench.specs.Sound.{Sound}
-use Rattle.bench.specs.State.{State, state}
+use Rattle.bench.specs.State.{State, state, IsSound}
 use Rattle.bench.specs.TapeAndLine.{came, filled}
 use Rattle.bench.specs.declared.tape_and_line.TapeAndLine.{TapeAndLine}
 use Rattle.bench.specs.Keeping.Moves.{arrives_sound}
@@ -15,7 +14,7 @@ loop-self-preserved c =
     let r = sym c.due.ensures ∙ c.loop-self-test.true in
     record {
       exact = ap filled c.arrive.ensures ∙ sym (fills_step es p refl r) ∙ l.invariant.exact;
-      sound = subst (λ (p : State TapeAndLine). Sound (length (came p.joined)) p.core) (sym c.arrive.ensures) (arrives_sound es p r l.invariant.sound);
+      sound = subst (IsSound came) (sym c.arrive.ensures) (arrives_sound es p r l.invariant.sound);
     }
 
 pub loop-self-smaller : goal.loop-self-smaller
