@@ -3,8 +3,8 @@ use Rattle.std.specs.Prelude.{◌≡◌, ℕ, Bool, cond, not, ◌&&◌, List, r
 use Rattle.std.proofs.Common.{sym, ap, ◌∙◌, subst}
 use Rattle.registers.specs.Flags.{contains, fifo_enable, rx_fifo_reset, tx_fifo_reset, loop_back}
 use Rattle.backends.specs.declared.character.Character.{Character}
-use Rattle.backends.specs.Chip.{ChipState, Receiver as RulesReceiver, Transmitter as RulesTransmitter, Setup, is_on, capacity, with_transmitter}
-use Rattle.backends.specs.Rules.{Reads, Writes, Takes, Status, ShowsFifos, unlooped as rules_unlooped, controlled as rules_controlled, switched as rules_switched, reset as rules_reset}
+use Rattle.backends.specs.Chip.{ChipState, Receiver as RulesReceiver, Transmitter as RulesTransmitter, Setup, is_on, capacity, with_receiver, with_transmitter}
+use Rattle.backends.specs.Rules.{Reads, Writes, Takes, Status, ShowsFifos, noticed, unlooped as rules_unlooped, controlled as rules_controlled, switched as rules_switched, reset as rules_reset}
 use Rattle.bench.specs.declared.chip_core.Core.{Core}
 use Rattle.bench.specs.declared.settings.Fifos.{Fifos}
 use Rattle.bench.specs.declared.settings.Fifos.TheVariants.{Absent, Off, On}
@@ -29,20 +29,23 @@ module _ (came : List Character) (gone : List ℕ) (s : Core) where
   m = chip_of came gone s
 
   pub reads_act : (k : ℕ) → Reads m k (answer s k) (chip_of came gone (answered s k))
-  reads_act k = record {
-    taken = λ z d. subst (λ j. Takes s.receiver.queue m (answer s j) (chip_of came gone (answered s j))) (sym z)
-        (simp d (takes_is s.receiver.queue s.receiver.counts s.receiver.seen came m.transmitter m.setup));
-    divisor_low = λ z d. subst (λ j. (answer s j ≡ s.settings.dll) × (chip_of came gone (answered s j) ≡ m)) (sym z) (simp d (refl, refl));
-    interrupts = λ z d. ap (λ j. chip_of came gone (answered s j)) z;
-    divisor_high = λ z d. subst (λ j. (answer s j ≡ s.settings.dlm) × (chip_of came gone (answered s j) ≡ m)) (sym z) (simp d (refl, refl));
-    interrupt_status = λ z. subst (λ j. ShowsFifos (is_on (mode s.settings.fifos)) (answer s j) × (chip_of came gone (answered s j) ≡ m)) (sym z)
-        (shows_is s.settings.fifos, refl);
-    line_control = λ z. subst (λ j. (answer s j ≡ s.settings.lcr) × (chip_of came gone (answered s j) ≡ m)) (sym z) (refl, refl);
-    modem_control = λ z. subst (λ j. (answer s j ≡ s.settings.mcr) × (chip_of came gone (answered s j) ≡ m)) (sym z) (refl, refl);
-    line_status = λ z. (subst (λ j. Status m (answer s j)) (sym z) (status_is came gone s), ap (λ j. chip_of came gone (answered s j)) z);
-    modem_status = λ z. ap (λ j. chip_of came gone (answered s j)) z;
-    scratch = λ z. ap (λ j. chip_of came gone (answered s j)) z;
-  }
+  reads_act k =
+      let at : (P : ℕ → ChipState → Type 0) (j : ℕ) → k ≡ j → P (answer s j) (chip_of came gone (answered s j)) → P (answer s k) (chip_of came gone (answered s k)) =
+      λ P j z h. subst (λ j. P (answer s j) (chip_of came gone (answered s j))) (sym z) h in
+      let gives : ℕ → ℕ → ChipState → Type 0 = λ r v n. (v ≡ r) × (n ≡ m) in
+      let stays : ℕ → ChipState → Type 0 = λ v n. n ≡ m in
+      record {
+        taken = λ z d. at (λ v n. Takes s.receiver.queue m v n) _ z (simp d (takes_is s.receiver.queue s.receiver.counts s.receiver.seen came m.transmitter m.setup));
+        divisor_low = λ z d. at (gives s.settings.dll) _ z (simp d (refl, refl));
+        interrupts = λ z d. at stays _ z refl;
+        divisor_high = λ z d. at (gives s.settings.dlm) _ z (simp d (refl, refl));
+        interrupt_status = λ z. at (λ v n. ShowsFifos (is_on (mode s.settings.fifos)) v × (n ≡ m)) _ z (shows_is s.settings.fifos, refl);
+        line_control = λ z. at (gives s.settings.lcr) _ z (refl, refl);
+        modem_control = λ z. at (gives s.settings.mcr) _ z (refl, refl);
+        line_status = λ z. at (λ v n. Status m v × (n ≡ with_receiver m (noticed m.receiver))) _ z (status_is came gone s, refl);
+        modem_status = λ z. at stays _ z refl;
+        scratch = λ z. at stays _ z refl;
+      }
 
 -- parts that mean the same make chips that mean the same
 pub chip_path : (r q : RulesReceiver) (t u : RulesTransmitter) (g : Setup) → r ≡ q → t ≡ u
@@ -71,20 +74,19 @@ module _ (came : List Character) (gone : List ℕ) (s : Core) where
   pub writes_act : (k v : ℕ) → Writes (chip_of came gone s) k v (chip_of came gone (written s k v))
   writes_act k v =
       let f = mode s.settings.fifos in
+      let g = s.settings in
+      let at : (j : ℕ) → k ≡ j → chip_of came gone (written s k v) ≡ chip_of came gone (written s j v) = λ j z. ap (λ j. chip_of came gone (written s j v)) z in
+      let sends = λ (b : Bool). chip_of came gone (cond b (with_settings s (with_dll g v)) (chip_with s (sent (loops g) (capacity f) v s.transmitter))) in
+      let interrupts = λ (b : Bool). chip_of came gone (with_settings s (cond b (with_dlm g v) (with_ier g v))) in
       record {
-        given = λ z d. ap (λ j. chip_of came gone (written s j v)) z
-            ∙ ap (λ b. chip_of came gone (cond b (with_settings s (with_dll s.settings v)) (chip_with s (sent (loops s.settings) (capacity f) v s.transmitter)))) d
-            ∙ ap (λ t. with_transmitter (chip_of came gone s) t) (sent_is gone s.transmitter (loops s.settings) (capacity f) v);
-        divisor_low = λ z d. ap (λ j. chip_of came gone (written s j v)) z
-            ∙ ap (λ b. chip_of came gone (cond b (with_settings s (with_dll s.settings v)) (chip_with s (sent (loops s.settings) (capacity f) v s.transmitter)))) d;
-        interrupts = λ z d. ap (λ j. chip_of came gone (written s j v)) z
-            ∙ ap (λ b. chip_of came gone (with_settings s (cond b (with_dlm s.settings v) (with_ier s.settings v)))) d;
-        divisor_high = λ z d. ap (λ j. chip_of came gone (written s j v)) z
-            ∙ ap (λ b. chip_of came gone (with_settings s (cond b (with_dlm s.settings v) (with_ier s.settings v)))) d;
-        fifo_control = λ z. ap (λ j. chip_of came gone (written s j v)) z ∙ controlled_is s.settings.fifos v;
-        line_control = λ z. ap (λ j. chip_of came gone (written s j v)) z;
-        modem_control = λ z. ap (λ j. chip_of came gone (written s j v)) z ∙ chip_path _ _ _ _ _ refl (unlooped_is (loops s.settings && not (contains v loop_back)));
-        line_status = λ z. ap (λ j. chip_of came gone (written s j v)) z;
-        modem_status = λ z. ap (λ j. chip_of came gone (written s j v)) z;
-        scratch = λ z. ap (λ j. chip_of came gone (written s j v)) z;
+        given = λ z d. at _ z ∙ ap sends d ∙ ap (λ t. with_transmitter (chip_of came gone s) t) (sent_is gone s.transmitter (loops g) (capacity f) v);
+        divisor_low = λ z d. at _ z ∙ ap sends d;
+        interrupts = λ z d. at _ z ∙ ap interrupts d;
+        divisor_high = λ z d. at _ z ∙ ap interrupts d;
+        fifo_control = λ z. at _ z ∙ controlled_is g.fifos v;
+        line_control = λ z. at _ z;
+        modem_control = λ z. at _ z ∙ chip_path _ _ _ _ _ refl (unlooped_is (loops g && not (contains v loop_back)));
+        line_status = λ z. at _ z;
+        modem_status = λ z. at _ z;
+        scratch = λ z. at _ z;
       }
