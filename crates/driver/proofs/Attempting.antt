@@ -1,6 +1,6 @@
 -- Attempts to send, one after the other.
-use Rattle.std.proofs.Common.{◌≡◌, ℕ, zero, suc, ◌+◌, ◌-◌, ◌<◌, ◌≤◌, Bool, true, false, cond, eqb, List, [], ◌∷◌, ◌++◌, length, take, drop, sym, refl, ap, ◌∙◌, subst, append_assoc, zero-add, arith, length-append, length-drop}
-use Rattle.std.proofs.lemmas.List.{drop-drop, take_all}
+use Rattle.std.proofs.Common.{◌≡◌, ℕ, zero, suc, ◌+◌, ◌<◌, ◌≤◌, Bool, true, false, cond, eqb, List, [], ◌∷◌, ◌++◌, length, take, drop, sym, refl, ap, ◌∙◌, subst, append_assoc, zero-add, arith, length-append, length-drop}
+use Rattle.std.proofs.lemmas.List.{drop-drop}
 use Rattle.std.proofs.lemmas.Bool.{ne_eqb}
 use Rattle.backends.specs.Device.{Device}
 use Rattle.driver.specs.declared.uart.Uart16550.{Uart16550}
@@ -108,10 +108,6 @@ pub no_refusal : (xs : List Attempt) → length xs ≡ 1 → 0 < length (taken x
 no_refusal [] e h = absurd (omega arith)
 no_refusal (a ∷ []) e h = let f = length-append a.bytes [] in ap (λ b. cond b 1 0) (ne_eqb (length a.bytes) 0 (λ z. omega arith))
 no_refusal (a ∷ (b ∷ xs)) e h = absurd (omega arith)
-
--- the rest of a slice
-pub rest_of : (n : ℕ) (xs : List ℕ) → take (length xs - n) (drop n xs) ≡ drop n xs
-rest_of n xs = take_all (length xs - n) (drop n xs) (let e = length-drop n xs in omega arith)
 
 -- one attempt more on what is left of the buffer
 module _ {S : Type 0} {d : Device S} {u v w : Uart16550 S} (buffer : List ℕ) {xs : List Attempt} (moved count : ℕ)

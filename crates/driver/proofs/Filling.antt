@@ -5,7 +5,7 @@ use Rattle.registers.specs.declared.error.Wait.{Wait}
 use Rattle.registers.specs.Refusal.{Refusal}
 use Rattle.backends.specs.Device.{Device}
 use Rattle.driver.specs.declared.uart.Uart16550.{Uart16550}
-use Rattle.driver.specs.Receives.{Try, took, missed, got, misses, filled, Made, short, Received, ReceivedOne, FillsExactly, all, cut, WaitsFor, came, late}
+use Rattle.driver.specs.Receives.{Try, took, missed, got, misses, filled, Made, Fills, full, short, Received, ReceivedOne, FillsExactly, all, cut, WaitsFor, came, late}
 use Rattle.driver.proofs.Tries.{made_append, got_append, misses_append, filled_more}
 
 -- a missed try adds no byte
@@ -14,6 +14,11 @@ got_miss ts v = got_append ts (missed v ∷ []) ∙ append-nil (got ts)
 
 got_took : (ts : List Try) (v b : ℕ) → got (ts ++ (took v b ∷ [])) ≡ got ts ++ (b ∷ [])
 got_took ts v b = got_append ts (took v b ∷ [])
+
+-- no more characters are taken than there are places
+pub fills_within : (room : ℕ) (ts : List Try) → Fills room ts → length (got ts) ≤ room
+fills_within room ts (full us z e) = omega arith
+fills_within room ts (short us v z h) = let e = ap length (got_miss us v) in omega arith
 
 module _ {S : Type 0} {d : Device S} {u v : Uart16550 S} {before buffer : List ℕ} {ts : List Try} (i : ℕ)
     (m : Made d u v ts) (n : length (got ts) ≡ i) (f : buffer ≡ filled (got ts) before) where

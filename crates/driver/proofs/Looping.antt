@@ -1,7 +1,7 @@
 -- The parts of the loopback test, one after the other.
-use Rattle.std.proofs.Common.{◌≡◌, ℕ, zero, suc, ◌+◌, ◌-◌, ◌<◌, ◌≤◌, Bool, true, false, cond, List, [], ◌∷◌, ◌++◌, length, EachIndex, get_or, take, drop, Some, None, Option, sym, refl, ap, ◌∙◌, subst, append_assoc, append-nil, zero-add, arith, length-append}
+use Rattle.std.proofs.Common.{◌≡◌, ℕ, suc, ◌+◌, ◌-◌, ◌≤◌, Bool, true, false, cond, List, [], ◌∷◌, ◌++◌, length, EachIndex, get_or, take, drop, Some, None, Option, sym, refl, ap, ◌∙◌, subst, append_assoc, append-nil, zero-add, arith, length-append}
 use lib.Bits.{bit_and}
-use Rattle.std.proofs.lemmas.List.{drop_all, take_all, take_more}
+use Rattle.std.proofs.lemmas.List.{drop_all, get_or-map}
 use Rattle.registers.specs.declared.error.Wait.{Wait}
 use Rattle.registers.specs.declared.error.Wait.TheVariants.{TestByte, TestMessageSent, TestMessageReceived}
 use Rattle.registers.specs.Refusal.{Refusal, refusal, amount}
@@ -257,11 +257,6 @@ module _ {S : Type 0} {d : Device S} {u v : Uart16550 S} where
 
 -- Bytes of which only some bits count
 
-masked_at : (m i : ℕ) (xs : List ℕ) → i < length xs → get_or (masked m xs) i 0 ≡ bit_and (get_or xs i 0) m
-masked_at m i [] h = absurd (omega arith)
-masked_at m zero (x ∷ xs) h = refl
-masked_at m (suc i) (x ∷ xs) h = masked_at m i xs (omega arith)
-
 -- bytes with the same bits at each index are the same under the mask
 pub masked_from_each : (m : ℕ) (xs ys : List ℕ) → length xs ≡ length ys → EachIndex xs (λ i. bit_and (get_or xs i 0) m ≡ bit_and (get_or ys i 0) m)
     → masked m xs ≡ masked m ys
@@ -273,4 +268,6 @@ masked_from_each m (x ∷ xs) (y ∷ ys) e f =
 
 pub each_from_masked : (m : ℕ) (xs ys : List ℕ) → length xs ≡ length ys → masked m xs ≡ masked m ys
     → EachIndex xs (λ i. bit_and (get_or xs i 0) m ≡ bit_and (get_or ys i 0) m)
-each_from_masked m xs ys n e i h = sym (masked_at m i xs h) ∙ ap (λ l. get_or l i 0) e ∙ masked_at m i ys (omega arith)
+each_from_masked m xs ys n e i h =
+    let b : ℕ → ℕ = λ v. bit_and v m in
+    sym (get_or-map b xs i 0 0 h) ∙ ap (λ l. get_or l i 0) e ∙ get_or-map b ys i 0 0 (omega arith)

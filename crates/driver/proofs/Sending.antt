@@ -1,7 +1,6 @@
 -- Attempts to send, put together.
-use Rattle.std.proofs.Common.{◌≡◌, ℕ, ◌-◌, ◌<◌, ◌≤◌, min, List, [], ◌∷◌, ◌++◌, length, take, Some, None, Option, sym, refl, ap, ◌∙◌, subst, ⊎_elim, append-nil, arith, length-take}
-use Rattle.std.proofs.lemmas.List.{take_all}
-use Rattle.std.proofs.lemmas.Bool.{cases_lt}
+use Rattle.std.proofs.Common.{◌≡◌, ℕ, ◌-◌, ◌<◌, ◌≤◌, min, List, [], ◌∷◌, ◌++◌, length, take, Some, None, Option, sym, refl, ap, ◌∙◌, subst, append-nil, arith, length-take}
+use Rattle.std.proofs.lemmas.List.{take_all, take_min}
 use Rattle.registers.specs.Refusal.{Refusal}
 use Rattle.backends.specs.Device.{Device, Runs, rd, wr}
 use Rattle.driver.specs.declared.uart.Uart16550.{Uart16550}
@@ -26,13 +25,6 @@ asked_lines {d = d} {u = u} {v = v} {w = w} t status m z p q r e f a = record {
 pub writes_append : (bs cs : List ℕ) → writes_of (bs ++ cs) ≡ writes_of bs ++ writes_of cs
 writes_append [] cs = refl
 writes_append (b ∷ bs) cs = ap (λ l. wr 0 b ∷ l) (writes_append bs cs)
-
--- a buffer that is shorter than what may be taken is taken whole
-pub take_min : (n : ℕ) (xs : List ℕ) → take (min n (length xs)) xs ≡ take n xs
-take_min n xs = ⊎_elim
-    (λ h. let e : min n (length xs) ≡ n = omega arith in ap (λ m. take m xs) e)
-    (λ h. let e : min n (length xs) ≡ length xs = omega arith in ap (λ m. take m xs) e ∙ take_all (length xs) xs (omega arith) ∙ sym (take_all n xs h))
-    (cases_lt n (length xs))
 
 module _ {S : Type 0} {d : Device S} {u w : Uart16550 S} {buffer : List ℕ} where
   -- nothing to send: no access

@@ -1,5 +1,5 @@
 -- The loopback test: what it does on the bus, and how it ends.
-use Rattle.std.specs.Prelude.{◌≡◌, ℕ, ◌+◌, ◌-◌, ◌^◌, ◌<◌, ◌≤◌, Bool, true, false, List, [], ◌∷◌, ◌++◌, length, Some, None, codes, Option, ◌≢◌, bit_and, bit_or, slice_index}
+use Rattle.std.specs.Prelude.{◌≡◌, ℕ, ◌+◌, ◌-◌, ◌^◌, ◌<◌, ◌≤◌, Bool, true, false, List, [], ◌∷◌, ◌++◌, length, map, Some, None, codes, Option, ◌≢◌, bit_and, bit_or, slice_index}
 use Rattle.registers.specs.declared.error.Wait.TheVariants.{Transmitter, Drain, TestByte, TestMessageSent, TestMessageReceived}
 use Rattle.registers.specs.declared.lcr.WordLength.{WordLength}
 use Rattle.registers.specs.Flags.{contains, line_errors, line_changes, transmitter_empty, loop_back}
@@ -28,8 +28,7 @@ data_mask w = 2 ^ word_bits w - 1
 
 -- bytes of which only the bits under the mask count
 abbrev pub masked : ℕ → List ℕ → List ℕ
-masked m [] = []
-masked m (v ∷ vs) = bit_and v m ∷ masked m vs
+masked m vs = map (λ v. bit_and v m) vs
 
 -- what the test does in loop mode, part by part: characters thrown away, a byte offered once, bytes sent, bytes read back
 pub data Part : Type 0 where

@@ -2,6 +2,7 @@
 use Rattle.std.proofs.Common.{◌≡◌, ℕ, Bool, true, false, cond, List, [], ◌∷◌, ◌++◌, length, take, drop, is_ok, Some, Ok, Err, vec_items, Option, Result, sym, refl, ap, ◌∙◌, subst, append-nil}
 use lib.Bits.{bit_or, bit_and}
 use Rattle.std.specs.Result.{result_ok}
+use Rattle.std.proofs.lemmas.List.{take_at}
 use Rattle.registers.specs.declared.error.ByteReceiveError.{ByteReceiveError}
 use Rattle.registers.specs.declared.error.ByteSendError.{ByteSendError}
 use Rattle.registers.specs.Flags.{contains, divisor_access, line_errors}
@@ -13,7 +14,7 @@ use Rattle.driver.specs.declared.uart.Uart16550.{Uart16550}
 use Rattle.driver.specs.Kept.{Kept, kept, with_saved}
 use Rattle.driver.specs.Traces.{noting}
 use Rattle.driver.specs.Receives.{Try, took, missed, got, statuses, one_try, filled}
-use Rattle.driver.specs.Getters.{divisor_look}
+use Rattle.driver.specs.Getters.{Looked, divisor_look}
 use Rattle.driver.specs.Receives as receives
 use Rattle.driver.specs.Sends as sends
 use Rattle.driver.proofs.Attempting.{taken_front}
@@ -29,19 +30,14 @@ use Rattle.ledger.proofs.Steps.{At}
 use Rattle.ledger.proofs.Pieces as pieces
 use Rattle.ledger.proofs.Shown.{shows_answered, shows_none, grown_same, Grown}
 
--- the first of two lists joined
-front_of : (xs ys : List ℕ) → take (length xs) (xs ++ ys) ≡ xs
-front_of [] ys = refl
-front_of (x ∷ xs) ys = ap (λ l. x ∷ l) (front_of xs ys)
-
 -- the first places of a filled buffer
 pub filled_front : (n : ℕ) (xs before after : List ℕ) → after ≡ filled xs before → n ≡ length xs → take n after ≡ xs
-filled_front n xs before after e f = ap (λ m. take m after) f ∙ ap (λ l. take (length xs) l) e ∙ front_of xs (drop (length xs) before)
+filled_front n xs before after e f = ap (λ l. take n l) e ∙ take_at xs (drop (length xs) before) n (sym f)
 
 -- the first bytes of a sent buffer
 pub sent_front : (k : Kept) (n : ℕ) (buffer : List ℕ) (tried : List sends.Attempt) → sends.Attempts k buffer tried → n ≡ length (sends.taken tried) → take n buffer ≡ sends.taken tried
 sent_front k n buffer tried a f =
-    ap (λ m. take m buffer) f ∙ ap (λ l. take (length (sends.taken tried)) l) (sym (taken_front k buffer tried a)) ∙ front_of (sends.taken tried) (drop (length (sends.taken tried)) buffer)
+    ap (λ l. take n l) (sym (taken_front k buffer tried a)) ∙ take_at (sends.taken tried) (drop (length (sends.taken tried)) buffer) n (sym f)
 
 -- what an answer has to show, and the counts that the next line status getter starts from
 abbrev pub ShowsNow : Bool → Option Answer → Counts → Counts → Counts → Type 0
@@ -126,53 +122,42 @@ module _ {S : Type 0} (d : Device S) (meaning : S → ChipState) (law : KeepsRul
         (steps.same_line d meaning law start base out gone σ new.backend (noting (kept old) (line ∷ []) []) (noting (kept old) (line ∷ []) (modem ∷ [])) refl refl
         (subst (λ u. At d meaning law start base out gone σ u (noting (kept old) (line ∷ []) [])) x.2.1.1.1.1.1.1.1 w.ledger))
 
+    -- one read of a register that changes nothing that is kept
+    glanced : (at v : ℕ) → Looked d old new at v → At d meaning law start base out gone σ (d.reader.next old.backend at) (kept old) → At d meaning law start base (out ++ []) (gone ++ []) σ new.backend (kept new)
+    glanced at v w x = still (kept old) w.keeps (subst (λ u. At d meaning law start base out gone σ u (kept old)) w.ran.1 x)
+
+    -- one read of the modem status, of which other bits are saved then
+    modem_read : (v : ℕ) (m : Kept) → kept new ≡ m → m.lsr ≡ old.lsr_saved → m.fifo ≡ old.fifo_enabled → Runs d (rd 6 v ∷ []) old.backend new.backend
+        → At d meaning law start base (out ++ []) (gone ++ []) σ new.backend (kept new)
+    modem_read v m e f h r = still m e (steps.same_line d meaning law start base out gone σ new.backend (kept old) m f h
+        (subst (λ u. At d meaning law start base out gone σ u (kept old)) r.1 (steps.read_msr d meaning law start base out gone σ old.backend (kept old) l).ledger))
+
+    -- a call other than the line status getter
+    other : (c : Call) (a : Option Answer) → is_lsr (record { call = c; answer = a }) ≡ false
+        → At d meaning law start base (out ++ handed_by c a) (gone ++ taken_by c a) σ new.backend (kept new) → KeptBy c a base out gone new.backend (kept new)
+    other c a e x = record { next = base; ledger = x; shows = subst (λ b. ShowsNow b a base (meaning new.backend).receiver.counts base) (sym e) refl }
+
     pub kept_by : (b c : Call) (a : Option Answer) → Did d old new b c a → KeptBy c a base out gone new.backend (kept new)
-    kept_by b c a (try_receive r w) = record { next = base; ledger = one_received r w.status w.made; shows = refl }
-    kept_by b c a (receive u v i w) = record
-        { next = base; ledger = rw (filled_front i (got w.ts) (vec_items u) (vec_items v) w.buffer w.answer) (tried w.ts w.made); shows = refl }
-    kept_by b c a (receive_exact u v i r w) = record
-        { next = base; ledger = rw (filled_front r.moved (got w.ts) (vec_items u) (vec_items v) w.buffer w.answer) (tried w.ts w.made); shows = refl }
-    kept_by b c a (ready_to_receive r w) = record {
-      next = base;
-      ledger = still (noting (kept old) (w.status ∷ []) []) w.keeps (subst (λ u. At d meaning law start base out gone σ u (noting (kept old) (w.status ∷ []) [])) w.ran.1
-          (steps.read_lsr d meaning law start base out gone σ old.backend (kept old) l w.status w.ran.0).ledger);
-      shows = refl;
-    }
-    kept_by b c a (try_send z r w x) = record { next = base; ledger = one_sent z r w; shows = refl }
-    kept_by b c a (send v i w) = record
-        { next = base; ledger = rw (sent_front (kept old) i (vec_items v) w.tried w.sound w.answer) (attempted (vec_items v) w.tried w.sound w.made); shows = refl }
-    kept_by b c a (send_exact v i r w) = record
-        { next = base; ledger = rw (sent_front (kept old) r.moved (vec_items v) w.tried w.sound w.answer) (attempted (vec_items v) w.tried w.sound w.made); shows = refl }
-    kept_by b c a (ready_to_send r w) = record
-        { next = base; ledger = still _ w.keeps (pieces.asked_kept d meaning law start base σ open_σ w.question out gone old.backend new.backend (kept old) w.ran l).ledger; shows = refl }
-    kept_by b c a (check_connected r w) = record {
-      next = base;
-      ledger = still (noting (kept old) [] (w.status ∷ [])) w.keeps (steps.same_line d meaning law start base out gone σ new.backend (kept old) (noting (kept old) [] (w.status ∷ [])) refl refl
-          (subst (λ u. At d meaning law start base out gone σ u (kept old)) w.ran.1 (steps.read_msr d meaning law start base out gone σ old.backend (kept old) l).ledger));
-      shows = refl;
-    }
-    kept_by b c a (check_present r w e) = record
-        { next = base; ledger = still (kept old) e (pieces.probe_kept d meaning law start base σ open_σ r w.0 out gone old.backend new.backend (kept old) w.1 w.2 l); shows = refl }
-    kept_by b c a (enable z w) = record { next = base; ledger = switched w.enabled _ _ w.keeps refl refl w.ran; shows = refl }
-    kept_by b c a (disable z w) = record { next = base; ledger = switched w.enabled _ _ w.keeps refl refl w.ran; shows = refl }
-    kept_by b c a (ier v w) = record
-        { next = base; ledger = still (kept old) w.keeps (subst (λ u. At d meaning law start base out gone σ u (kept old)) w.ran.1 (steps.read_ier d meaning law start base out gone σ old.backend (kept old) l open_σ).ledger); shows = refl }
-    kept_by b c a (isr v w) = record
-        { next = base; ledger = still (kept old) w.keeps (subst (λ u. At d meaning law start base out gone σ u (kept old)) w.ran.1 (steps.read_isr d meaning law start base out gone σ old.backend (kept old) l).ledger); shows = refl }
-    kept_by b c a (lcr v w) = record
-        { next = base; ledger = still (kept old) w.keeps (subst (λ u. At d meaning law start base out gone σ u (kept old)) w.ran.1 (steps.read_lcr d meaning law start base out gone σ old.backend (kept old) l).ledger); shows = refl }
-    kept_by b c a (mcr v w) = record
-        { next = base; ledger = still (kept old) w.keeps (subst (λ u. At d meaning law start base out gone σ u (kept old)) w.ran.1 (steps.read_mcr d meaning law start base out gone σ old.backend (kept old) l).ledger); shows = refl }
+    kept_by b c a (try_receive r w) = other c a refl (one_received r w.status w.made)
+    kept_by b c a (receive u v i w) = other c a refl (rw (filled_front i (got w.ts) (vec_items u) (vec_items v) w.buffer w.answer) (tried w.ts w.made))
+    kept_by b c a (receive_exact u v i r w) = other c a refl (rw (filled_front r.moved (got w.ts) (vec_items u) (vec_items v) w.buffer w.answer) (tried w.ts w.made))
+    kept_by b c a (ready_to_receive r w) = other c a refl (still (noting (kept old) (w.status ∷ []) []) w.keeps
+        (subst (λ u. At d meaning law start base out gone σ u (noting (kept old) (w.status ∷ []) [])) w.ran.1
+        (steps.read_lsr d meaning law start base out gone σ old.backend (kept old) l w.status w.ran.0).ledger))
+    kept_by b c a (try_send z r w x) = other c a refl (one_sent z r w)
+    kept_by b c a (send v i w) = other c a refl (rw (sent_front (kept old) i (vec_items v) w.tried w.sound w.answer) (attempted (vec_items v) w.tried w.sound w.made))
+    kept_by b c a (send_exact v i r w) = other c a refl (rw (sent_front (kept old) r.moved (vec_items v) w.tried w.sound w.answer) (attempted (vec_items v) w.tried w.sound w.made))
+    kept_by b c a (ready_to_send r w) = other c a refl (still _ w.keeps (pieces.asked_kept d meaning law start base σ open_σ w.question out gone old.backend new.backend (kept old) w.ran l).ledger)
+    kept_by b c a (check_connected r w) = other c a refl (modem_read w.status _ w.keeps refl refl w.ran)
+    kept_by b c a (check_present r w e) = other c a refl (still (kept old) e (pieces.probe_kept d meaning law start base σ open_σ r w.0 out gone old.backend new.backend (kept old) w.1 w.2 l))
+    kept_by b c a (enable z w) = other c a refl (switched w.enabled _ _ w.keeps refl refl w.ran)
+    kept_by b c a (disable z w) = other c a refl (switched w.enabled _ _ w.keeps refl refl w.ran)
+    kept_by b c a (ier v w) = other c a refl (glanced _ v w (steps.read_ier d meaning law start base out gone σ old.backend (kept old) l open_σ).ledger)
+    kept_by b c a (isr v w) = other c a refl (glanced _ v w (steps.read_isr d meaning law start base out gone σ old.backend (kept old) l).ledger)
+    kept_by b c a (lcr v w) = other c a refl (glanced _ v w (steps.read_lcr d meaning law start base out gone σ old.backend (kept old) l).ledger)
+    kept_by b c a (mcr v w) = other c a refl (glanced _ v w (steps.read_mcr d meaning law start base out gone σ old.backend (kept old) l).ledger)
     kept_by b c a (lsr v w) = looked w.status v w.ran.0 w.ran.1 w.answer w.keeps
-    kept_by b c a (msr v w) = record {
-      next = base;
-      ledger = still (with_saved (kept old) (kept old).lsr 0) w.keeps (steps.same_line d meaning law start base out gone σ new.backend (kept old) (with_saved (kept old) (kept old).lsr 0) refl refl
-          (subst (λ u. At d meaning law start base out gone σ u (kept old)) w.ran.1 (steps.read_msr d meaning law start base out gone σ old.backend (kept old) l).ledger));
-      shows = refl;
-    }
-    kept_by b c a (spr v w) = record
-        { next = base; ledger = still (kept old) w.keeps (subst (λ u. At d meaning law start base out gone σ u (kept old)) w.ran.1 (steps.read_spr d meaning law start base out gone σ old.backend (kept old) l).ledger); shows = refl }
-    kept_by b c a (dll_dlm x y w) = record
-        { next = base; ledger = still (kept old) w.keeps (pieces.look_kept d meaning law start base σ open_σ w.lcr x y out gone old.backend new.backend (kept old) w.ran l); shows = refl }
-    kept_by b c a (dump v w) = record
-        { next = base; ledger = dumped w.found v.dll v.dlm v.ier v.isr v.lcr v.mcr w.line w.modem v.spr w.keeps w.ran; shows = refl }
+    kept_by b c a (msr v w) = other c a refl (modem_read w.status _ w.keeps refl refl w.ran)
+    kept_by b c a (spr v w) = other c a refl (glanced _ v w (steps.read_spr d meaning law start base out gone σ old.backend (kept old) l).ledger)
+    kept_by b c a (dll_dlm x y w) = other c a refl (still (kept old) w.keeps (pieces.look_kept d meaning law start base σ open_σ w.lcr x y out gone old.backend new.backend (kept old) w.ran l))
+    kept_by b c a (dump v w) = other c a refl (dumped w.found v.dll v.dlm v.ier v.isr v.lcr v.mcr w.line w.modem v.spr w.keeps w.ran)

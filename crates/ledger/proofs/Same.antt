@@ -4,7 +4,8 @@ use Rattle.registers.specs.declared.error.Wait.{Wait}
 use Rattle.registers.specs.Refusal.{Refusal}
 use Rattle.backends.specs.Device.{Device}
 use Rattle.driver.specs.declared.uart.Uart16550.{Uart16550}
-use Rattle.driver.specs.Receives.{Try, took, missed, got, filled, Fills, full, short, FillsExactly, no_room, all, cut}
+use Rattle.driver.specs.Receives.{Try, took, missed, got, filled, FillsExactly, no_room, all, cut}
+use Rattle.driver.proofs.Filling.{fills_within}
 use Rattle.driver.proofs.Tries.{got_append}
 use Rattle.ledger.specs.declared.call.Call.{Call}
 use Rattle.ledger.specs.declared.call.Answer.{Answer}
@@ -12,10 +13,6 @@ use Rattle.ledger.specs.Did.{Did, try_receive, receive, receive_exact, ready_to_
 
 got_more : (ts us : List Try) → length (got (ts ++ us)) ≡ length (got ts) + length (got us)
 got_more ts us = ap length (got_append ts us) ∙ length-append (got ts) (got us)
-
-fills_within : (room : ℕ) (ts : List Try) → Fills room ts → length (got ts) ≤ room
-fills_within room ts (full us z e) = omega arith
-fills_within room ts (short us v z h) = omega (arith, got_more us (missed v ∷ []))
 
 exactly_within : (room n : ℕ) (w : Wait) (x : Option Refusal) (ts : List Try) → FillsExactly room n w x ts → length (got ts) ≤ room
 exactly_within room n w x ts (no_room e) = omega arith

@@ -1,7 +1,7 @@
 use Rattle.std.proofs.Common.{[], ◌∷◌, ◌++◌, refl, arith}
 use Rattle.std.proofs.lemmas.Result.{err_from_is_err_and}
 use Rattle.driver.specs.Receives.{took, missed}
-use Rattle.driver.specs.Loopback.{drained, emptied, flooded}
+use Rattle.driver.specs.Loopback.{emptied, flooded}
 use Rattle.driver.proofs.Tries.{no_tries, made_append}
 use Rattle.driver.proofs.Looping.{drain_more, got_miss, done, one_drained}
 use Rattle.driver.proofs.uart.Uart16550.drain.Goals as goal

@@ -1,8 +1,9 @@
 use Rattle.std.proofs.Common.{◌≡◌, ℕ, ◌+◌, ◌-◌, ◌≤◌, List, [], ◌++◌, length, take, drop, refl, subst, arith, rules}
+use Rattle.std.proofs.lemmas.List.{take_rest}
 use Rattle.backends.specs.Device.{Device}
 use Rattle.driver.specs.declared.uart.Uart16550.{Uart16550}
 use Rattle.driver.specs.Sends.{all, cut, refusals, Sent}
-use Rattle.driver.proofs.Attempting.{no_attempts, one_more, one_refused, rest_of}
+use Rattle.driver.proofs.Attempting.{no_attempts, one_more, one_refused}
 use Rattle.driver.proofs.uart.Uart16550.send_all.Goals as goal
 use Rattle.driver.proofs.uart.Uart16550.send_all.Goals.{then-count-eq0+in_default, else-count-eq0}
 
@@ -12,7 +13,7 @@ loop-moved-init g c = ([], no_attempts, tt, refl, omega arith, omega arith, c.re
 -- what the call of this turn sent, of the rest of the buffer
 turn : {S : Type 0} {d : Device S} {u v : Uart16550 S} (buffer : List ℕ) (moved : ℕ) {count : ℕ}
     → Sent d u v (take (length buffer - moved) (drop moved buffer)) count → Sent d u v (drop moved buffer) count
-turn {d = d} {u = u} {v = v} buffer moved {count = count} q = subst (λ b. Sent d u v b count) (rest_of moved buffer) q
+turn {d = d} {u = u} {v = v} buffer moved {count = count} q = subst (λ b. Sent d u v b count) (take_rest buffer moved) q
 
 pub returns-in-Err-clause-sent : goal.returns-in-Err-clause-sent
 returns-in-Err-clause-sent g c =
