@@ -46,11 +46,14 @@ impl Budget {
         }
     }
 
-    /// The fruitless polls so far.
-    pub fn fruitless(&self) -> u32
-        ensures { result ≡ self.now.fruitless }
+    /// The answer of a call that ends so, with what this budget counted.
+    pub fn waited<T>(&self, ended: T) -> Waited<T>
+        ensures { result ≡ record { result = ended; fruitless = self.now.fruitless } }
     {
-        self.fruitless
+        Waited {
+            result: ended,
+            fruitless: self.fruitless,
+        }
     }
 
     /// The answer of an exact transfer that ends so, with what this budget counted.

@@ -57,10 +57,7 @@ impl<B: Backend> Uart16550<B> {
     {
         let mut polls = Budget::new(budget);
         let result = self.loop_test(place, &mut polls);
-        Waited {
-            result,
-            fruitless: polls.fruitless(),
-        }
+        polls.waited(result)
     }
 
     /// `test_loopback`, with the budget that it may spend.

@@ -94,10 +94,7 @@ impl<B: Backend> Uart16550<B> {
     {
         let mut polls = Budget::new(budget);
         let result = self.initialise(config, &mut polls);
-        Waited {
-            result,
-            fruitless: polls.fruitless(),
-        }
+        polls.waited(result)
     }
 
     /// `init`, with the budget that it may spend.
