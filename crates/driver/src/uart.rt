@@ -123,10 +123,7 @@ impl<B: Backend> Uart16550<B> {
         ensures accesses { Ran B.device (Patterns result) self.old.backend self.new.backend }
         ensures keeps { kept self.new ≡ kept self.old }
     {
-        if !self.keeps(0x42) {
-            return false;
-        }
-        self.keeps(0x73)
+        self.keeps(0x42) && self.keeps(0x73)
     }
 
     /// Whether the scratch register gives a pattern back.
