@@ -3,9 +3,16 @@
 use crate::seen::{Seen, mix};
 use uart_16550::backend::Backend;
 
-/// A device that gives back what a run did with it.
-pub trait Device: Backend {
-    fn seen(&self, done: usize, lsr: u8) -> Seen;
+/// A device that tells how far it has come, and the sum over all writes to it.
+pub trait Watched: Backend {
+    fn place(&self) -> usize;
+
+    fn sum(&self) -> u32;
+
+    /// What the device saw of a run that did so much and left this line status.
+    fn seen(&self, done: usize, lsr: u8) -> Seen {
+        Seen { done, place: self.place(), sum: self.sum(), lsr }
+    }
 }
 
 /// A device that answers each read with the next byte of a list, and with 0xFF after its end.
@@ -21,9 +28,13 @@ impl<'a> Tape<'a> {
     }
 }
 
-impl Device for Tape<'_> {
-    fn seen(&self, done: usize, lsr: u8) -> Seen {
-        Seen { done, place: self.at, sum: self.sum, lsr }
+impl Watched for Tape<'_> {
+    fn place(&self) -> usize {
+        self.at
+    }
+
+    fn sum(&self) -> u32 {
+        self.sum
     }
 }
 
@@ -99,9 +110,13 @@ impl SmallChip {
     }
 }
 
-impl Device for SmallChip {
-    fn seen(&self, done: usize, lsr: u8) -> Seen {
-        Seen { done, place: self.left, sum: self.sum, lsr }
+impl Watched for SmallChip {
+    fn place(&self) -> usize {
+        self.left
+    }
+
+    fn sum(&self) -> u32 {
+        self.sum
     }
 }
 

@@ -3,12 +3,12 @@
 //! Each run is a function of its own that stays in the symbol table, so that its instructions can
 //! be counted by its name.
 
-use crate::devices::{Device, SmallChip, Tape, WIRED};
+use crate::devices::{SmallChip, Tape, WIRED, Watched};
 use crate::seen::Seen;
 use std::hint::black_box;
 use uart_16550::{BaudRate, Config, Uart16550};
 
-fn receive_on<D: Device>(device: D, buffer: &mut [u8], places: usize) -> Seen {
+fn receive_on<D: Watched>(device: D, buffer: &mut [u8], places: usize) -> Seen {
     // SAFETY: the device reaches no memory but its own.
     let mut uart = unsafe { Uart16550::new_with_backend(device) };
     let mut done = 0;
@@ -19,7 +19,7 @@ fn receive_on<D: Device>(device: D, buffer: &mut [u8], places: usize) -> Seen {
     uart.backend().seen(done, lsr)
 }
 
-fn send_on<D: Device>(device: D, bytes: &[u8], rounds: usize) -> Seen {
+fn send_on<D: Watched>(device: D, bytes: &[u8], rounds: usize) -> Seen {
     // SAFETY: as above.
     let mut uart = unsafe { Uart16550::new_with_backend(device) };
     for _ in 0..rounds {
@@ -29,7 +29,7 @@ fn send_on<D: Device>(device: D, bytes: &[u8], rounds: usize) -> Seen {
     uart.backend().seen(rounds, lsr)
 }
 
-fn init_on<D: Device>(device: D, rates: &[u32]) -> Seen {
+fn init_on<D: Watched>(device: D, rates: &[u32]) -> Seen {
     // SAFETY: as above.
     let mut uart = unsafe { Uart16550::new_with_backend(device) };
     let mut done = 0;
