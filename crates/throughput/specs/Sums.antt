@@ -23,6 +23,10 @@ blank = record { count = 0; sum = 0 }
 abbrev pub joined : Checksum → Checksum → Checksum
 joined s t = record { count = plus s.count t.count; sum = plus s.sum t.sum }
 
+-- the totals of one chip
+abbrev pub of_chip : ℕ → List ℕ → Checksum → ℕ → Totals
+of_chip sent left received lost = record { chips = 1; sent = sent; left = with_bytes left blank; received = received; lost = lost }
+
 -- two totals together
 abbrev pub added : Totals → Totals → Totals
 added s t = record {

@@ -1,6 +1,6 @@
 //! The totals, and how they are printed.
 
-ghost use Rattle.throughput.specs.Sums.{added, none};
+ghost use Rattle.throughput.specs.Sums.{added, none, of_chip};
 ghost use Rattle.std.specs.Prelude.{◌≡◌, fold};
 
 use crate::checksum::Checksum;
@@ -21,6 +21,21 @@ pub struct Totals {
     pub received: Checksum,
     /// How many characters were lost.
     pub lost: u64,
+}
+
+impl Totals {
+    /// Of one chip, which these bytes left.
+    pub fn of_one(sent: u64, left: &[u8], received: Checksum, lost: u64) -> Totals
+        ensures { result ≡ of_chip sent left.now received lost }
+    {
+        Totals {
+            chips: 1,
+            sent,
+            left: Checksum::of(left),
+            received,
+            lost,
+        }
+    }
 }
 
 /// Those of both.
