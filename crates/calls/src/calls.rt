@@ -11,6 +11,9 @@ pub const ROOM: usize = 1024;
 /// A driver over a scripted device whose accesses are recorded.
 pub type Device<'a> = Uart16550<Recording<Script<'a>, ROOM>>;
 
+// Device and line stay two parameters: the device stands for many lines, and a struct of the two
+// borrows would be taken apart again in each call.
+
 /// Plays the call of the line.
 pub fn answer(device: &mut Device<'_>, line: &mut Line<'_>) -> Answered {
     transfers::answer(device, line)

@@ -51,11 +51,3 @@ impl<T: Drop> From<AllocFailed<T>> for Fault {
         Fault::Memory
     }
 }
-
-impl From<fmt::Error> for Fault {
-    ghost from_gives = { λ _ r. r ≡ Memory };
-
-    fn from(_e: fmt::Error) -> Fault {
-        Fault::Memory
-    }
-}

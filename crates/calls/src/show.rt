@@ -99,7 +99,7 @@ impl<V: fmt::Display, E: Refused> fmt::Display for Outcome<V, E> {
     }
 }
 
-/// What was done, or why it was refused.
+/// What was done, or why it was refused. Unlike an outcome, its `ok` has no value behind it.
 #[derive(Drop)]
 pub struct Done<E>(pub Result<(), E>);
 

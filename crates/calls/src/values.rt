@@ -1,5 +1,8 @@
 //! Values as a word writes them: each is read from a word, and printed as one.
 
+// Names stand in two matches and not in a list that is gone through both ways: a match on a value is
+// seen to be complete.
+
 use crate::fault::Fault;
 use crate::hex::byte_of;
 use registers::config::BaudRate;

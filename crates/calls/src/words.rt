@@ -42,6 +42,8 @@ impl<'a> Words<'a> {
         Ok(())
     }
 
+    // One reader for each number of values, since a type parameter stands for one type.
+
     /// The value of the next word.
     pub fn one<T: FromStr>(&mut self) -> Result<T, Fault>
     where
