@@ -18,8 +18,10 @@ pub trait Refused {
     fn number(&self) -> u8
         ensures { result ≡ (refusal self.now).number };
 
-    /// Writes the values that go with the number, each after a space.
-    fn values<W: fmt::Write>(&self, f: &mut fmt::Formatter<W>) -> fmt::Result;
+    /// Writes the values that go with the number, each after a space. There may be none.
+    fn values<W: fmt::Write>(&self, _f: &mut fmt::Formatter<W>) -> fmt::Result {
+        Ok(())
+    }
 
     /// Writes the whole refusal.
     fn tell<W: fmt::Write>(&self, f: &mut fmt::Formatter<W>) -> fmt::Result {
@@ -141,10 +143,6 @@ impl Refused for ByteReceiveError {
     fn number(&self) -> u8 {
         10
     }
-
-    fn values<W: fmt::Write>(&self, _f: &mut fmt::Formatter<W>) -> fmt::Result {
-        Ok(())
-    }
 }
 
 impl Refused for ByteSendError {
@@ -156,10 +154,6 @@ impl Refused for ByteSendError {
             ByteSendError::RemoteNotClearToSend => 12,
         }
     }
-
-    fn values<W: fmt::Write>(&self, _f: &mut fmt::Formatter<W>) -> fmt::Result {
-        Ok(())
-    }
 }
 
 impl Refused for RemoteReadyToReceiveError {
@@ -170,10 +164,6 @@ impl Refused for RemoteReadyToReceiveError {
             RemoteReadyToReceiveError::NoRemoteConnectedNoDSR => 13,
             RemoteReadyToReceiveError::RemoteNotClearToSend => 14,
         }
-    }
-
-    fn values<W: fmt::Write>(&self, _f: &mut fmt::Formatter<W>) -> fmt::Result {
-        Ok(())
     }
 }
 
