@@ -7,20 +7,12 @@ use std::test::*;
 
 /// A row of a table: the register is read, and must give this byte.
 pub fn r(offset: u8, value: u8) -> Access {
-    Access {
-        kind: Kind::Read,
-        offset,
-        value,
-    }
+    Access::read(offset, value)
 }
 
 /// A row of a table: this byte is written to the register.
 pub fn w(offset: u8, value: u8) -> Access {
-    Access {
-        kind: Kind::Write,
-        offset,
-        value,
-    }
+    Access::write(offset, value)
 }
 
 /// Makes the accesses of a table, in their order.
@@ -36,15 +28,7 @@ pub fn run<B: Backend>(rt: &impl Abort, chip: &mut B, table: &[Access]) -> Resul
 
 /// A character without marks.
 pub fn plain(byte: u8, gap: u8) -> TapeEntry {
-    TapeEntry {
-        character: Character {
-            byte,
-            parity: false,
-            framing: false,
-            broken: false,
-        },
-        gap,
-    }
+    marked(byte, false, false, gap)
 }
 
 /// A character with a wrong parity bit, and one without a stop bit.
