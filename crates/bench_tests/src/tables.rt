@@ -1,7 +1,8 @@
 //! Runs as tables, and the chips to run them on.
 
 use backends::{Access, Backend, Character, Kind};
-use bench::{BenchOptions, ModemLines, TapeEntry};
+use bench::{Bench, BenchOptions, ModemLines, TapeEntry};
+use std::alloc::Global;
 use std::process::Abort;
 use std::test::*;
 
@@ -62,4 +63,14 @@ pub fn options(pace: u16) -> BenchOptions {
         pace,
         lines: quiet(),
     }
+}
+
+/// A bench on which this tape runs; its store has room for so many bytes.
+pub fn bench(
+    heap: Global,
+    with: BenchOptions,
+    tape: &[TapeEntry],
+    room: usize,
+) -> Result<Bench, Fail> {
+    Ok(Bench::new(with, tape.to_vec(heap)?, vec![in heap; 0; room]?))
 }

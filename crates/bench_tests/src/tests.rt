@@ -7,19 +7,15 @@ use std::alloc::Global;
 use std::process::Abort;
 use std::test::*;
 
-/// A tape whose first entry comes on access 2 and brings the others with it: bytes 1 to n.
-fn burst(rt: HostRuntime, n: u8) -> Result<Bench, Fail> {
-    let mut tape = Vec::new(rt.alloc());
-    tape.push(plain(1, 2))?;
-    for byte in 2..=n {
-        tape.push(plain(byte, 0))?;
-    }
-    Ok(Bench::new(options(1), tape, Vec::new(rt.alloc())))
+/// A bench whose tape starts on access 2 and brings all at once: bytes 1 to n.
+fn burst(heap: Global, n: u8) -> Result<Bench, Fail> {
+    let entries = (1..=n).map(|byte| plain(byte, if byte == 1 { 2 } else { 0 }));
+    Ok(Bench::new(options(1), entries.collect(heap)?, vec![in heap]?))
 }
 
 #[test]
 fn sixteen_fit(rt: HostRuntime) -> Result<(), Fail> {
-    let mut b = burst(rt, 16)?;
+    let mut b = burst(rt.alloc(), 16)?;
     run(
         &rt,
         &mut b,
@@ -34,7 +30,7 @@ fn sixteen_fit(rt: HostRuntime) -> Result<(), Fail> {
 
 #[test]
 fn the_seventeenth_is_lost(rt: HostRuntime) -> Result<(), Fail> {
-    let mut b = burst(rt, 17)?;
+    let mut b = burst(rt.alloc(), 17)?;
     run(&rt, &mut b, &[w(2, 0x01), r(5, 0x63), r(5, 0x61)])?;
     assert_eq!(rt; b.counts().lost, 1);
     assert_eq!(rt; b.arrived().len(), 17);
@@ -47,10 +43,8 @@ fn the_seventeenth_is_lost(rt: HostRuntime) -> Result<(), Fail> {
 // both arrive on the first access, and the second replaces the first
 #[test]
 fn two_on_one_access(rt: HostRuntime) -> Result<(), Fail> {
-    let mut tape = Vec::new(rt.alloc());
-    tape.push(plain(0x41, 0))?;
-    tape.push(marked(0x42, true, false, 0))?;
-    let mut b = Bench::new(options(1), tape, Vec::new(rt.alloc()));
+    let tape = [plain(0x41, 0), marked(0x42, true, false, 0)];
+    let mut b = bench(rt.alloc(), options(1), &tape, 0)?;
     run(
         &rt,
         &mut b,
@@ -64,9 +58,8 @@ fn two_on_one_access(rt: HostRuntime) -> Result<(), Fail> {
 // one character waits, one byte is held and one turns: turning the FIFOs off strikes all
 #[test]
 fn fifos_turned_off(rt: HostRuntime) -> Result<(), Fail> {
-    let mut tape = Vec::new(rt.alloc());
-    tape.push(plain(0x41, 2))?;
-    let mut b = Bench::new(options(65_535), tape, Vec::new(rt.alloc()));
+    let tape = [plain(0x41, 2)];
+    let mut b = bench(rt.alloc(), options(65_535), &tape, 0)?;
     run(
         &rt,
         &mut b,
@@ -94,9 +87,7 @@ fn fifos_turned_off(rt: HostRuntime) -> Result<(), Fail> {
 // beats on accesses 3 and 6: on the first nothing leaves, since it is in loop mode
 #[test]
 fn loop_mode_with_a_held_byte(rt: HostRuntime) -> Result<(), Fail> {
-    let mut store = Vec::new(rt.alloc());
-    store.push(0)?;
-    let mut b = Bench::new(options(3), Vec::new(rt.alloc()), store);
+    let mut b = bench(rt.alloc(), options(3), &[], 1)?;
     run(
         &rt,
         &mut b,
@@ -110,7 +101,7 @@ fn loop_mode_with_a_held_byte(rt: HostRuntime) -> Result<(), Fail> {
 
 #[test]
 fn a_byte_comes_round(rt: HostRuntime) -> Result<(), Fail> {
-    let mut b = Bench::new(options(1), Vec::new(rt.alloc()), Vec::new(rt.alloc()));
+    let mut b = bench(rt.alloc(), options(1), &[], 0)?;
     run(
         &rt,
         &mut b,
@@ -123,9 +114,8 @@ fn a_byte_comes_round(rt: HostRuntime) -> Result<(), Fail> {
 // accesses 2 and 3 are in loop mode: the third that counts is access 5
 #[test]
 fn loop_mode_stops_the_gaps(rt: HostRuntime) -> Result<(), Fail> {
-    let mut tape = Vec::new(rt.alloc());
-    tape.push(plain(0x41, 3))?;
-    let mut b = Bench::new(options(1), tape, Vec::new(rt.alloc()));
+    let tape = [plain(0x41, 3)];
+    let mut b = bench(rt.alloc(), options(1), &tape, 0)?;
     run(
         &rt,
         &mut b,
@@ -141,9 +131,7 @@ fn loop_mode_stops_the_gaps(rt: HostRuntime) -> Result<(), Fail> {
 }
 
 fn leaves_on(rt: &impl Abort, heap: Global, pace: u16, access: u32) -> Result<(), Fail> {
-    let mut store = Vec::new(heap);
-    store.push(0)?;
-    let mut b = Bench::new(options(pace), Vec::new(heap), store);
+    let mut b = bench(heap, options(pace), &[], 1)?;
     b.write(0, 0x31);
     for _ in 2..access {
         assert_eq!(rt; b.read(5), 0x00);
@@ -161,9 +149,7 @@ fn paces(rt: HostRuntime) -> Result<(), Fail> {
 
 #[test]
 fn a_full_store(rt: HostRuntime) -> Result<(), Fail> {
-    let mut store = Vec::new(rt.alloc());
-    store.push(0)?;
-    let mut b = Bench::new(options(1), Vec::new(rt.alloc()), store);
+    let mut b = bench(rt.alloc(), options(1), &[], 1)?;
     run(
         &rt,
         &mut b,
@@ -177,12 +163,13 @@ fn a_full_store(rt: HostRuntime) -> Result<(), Fail> {
 // the second comes with the first, the third on the next access, the fourth two after that
 #[test]
 fn gaps(rt: HostRuntime) -> Result<(), Fail> {
-    let mut tape = Vec::new(rt.alloc());
-    tape.push(plain(0x41, 2))?;
-    tape.push(plain(0x42, 0))?;
-    tape.push(plain(0x43, 1))?;
-    tape.push(plain(0x44, 2))?;
-    let mut b = Bench::new(options(1), tape, Vec::new(rt.alloc()));
+    let tape = [
+        plain(0x41, 2),
+        plain(0x42, 0),
+        plain(0x43, 1),
+        plain(0x44, 2),
+    ];
+    let mut b = bench(rt.alloc(), options(1), &tape, 0)?;
     run(&rt, &mut b, &[w(2, 0x01), r(5, 0x61)])?;
     assert_eq!(rt; b.waiting(), 2);
     run(&rt, &mut b, &[r(0, 0x41)])?;
@@ -197,10 +184,8 @@ fn gaps(rt: HostRuntime) -> Result<(), Fail> {
 // a mark counts as its character becomes the first
 #[test]
 fn marks(rt: HostRuntime) -> Result<(), Fail> {
-    let mut tape = Vec::new(rt.alloc());
-    tape.push(marked(0x41, true, false, 2))?;
-    tape.push(marked(0x42, false, true, 0))?;
-    let mut b = Bench::new(options(1), tape, Vec::new(rt.alloc()));
+    let tape = [marked(0x41, true, false, 2), marked(0x42, false, true, 0)];
+    let mut b = bench(rt.alloc(), options(1), &tape, 0)?;
     run(
         &rt,
         &mut b,
@@ -231,7 +216,7 @@ fn modem_lines(rt: HostRuntime) -> Result<(), Fail> {
         pace: 1,
         lines,
     };
-    let mut b = Bench::new(with, Vec::new(rt.alloc()), Vec::new(rt.alloc()));
+    let mut b = bench(rt.alloc(), with, &[], 0)?;
     run(
         &rt,
         &mut b,
@@ -250,7 +235,7 @@ fn modem_lines(rt: HostRuntime) -> Result<(), Fail> {
 
 #[test]
 fn registers_keep(rt: HostRuntime) -> Result<(), Fail> {
-    let mut b = Bench::new(options(1), Vec::new(rt.alloc()), Vec::new(rt.alloc()));
+    let mut b = bench(rt.alloc(), options(1), &[], 0)?;
     run(
         &rt,
         &mut b,
@@ -283,7 +268,7 @@ fn without_fifos_and_scratch(rt: HostRuntime) -> Result<(), Fail> {
         pace: 1,
         lines: quiet(),
     };
-    let mut b = Bench::new(with, Vec::new(rt.alloc()), Vec::new(rt.alloc()));
+    let mut b = bench(rt.alloc(), with, &[], 0)?;
     run(
         &rt,
         &mut b,
@@ -294,10 +279,7 @@ fn without_fifos_and_scratch(rt: HostRuntime) -> Result<(), Fail> {
 // the store has room for two bytes, and the third stays held
 #[test]
 fn a_plug(rt: HostRuntime) -> Result<(), Fail> {
-    let mut store = Vec::new(rt.alloc());
-    store.push(0)?;
-    store.push(0)?;
-    let mut p = Plug::new(quiet(), store);
+    let mut p = Plug::new(quiet(), vec![in rt.alloc(); 0; 2]?);
     run(
         &rt,
         &mut p,
