@@ -50,9 +50,7 @@ impl Tape {
     pub fn age(&mut self)
         ensures { self.new ≡ older self.old }
     {
-        if self.since < 255 {
-            self.since += 1;
-        }
+        self.since = self.since.saturating_add(1);
     }
 
     /// Whether there is a next entry and its gap is over.
