@@ -7,6 +7,8 @@ use crate::access::Access;
 
 /// The first accesses, as many as there is room for, and a count of all, which stays at its largest
 /// value.
+// An array, since no access may fail for want of memory. The count goes on when it is full, and is
+// no length.
 #[derive(Drop)]
 pub struct AccessLog<const ROOM: usize> {
     entries: [Access; ROOM],

@@ -1,5 +1,8 @@
 //! Characters as a receiver has them.
 
+ghost use Rattle.backends.specs.Rules.{unmarked as without_marks};
+ghost use Rattle.std.specs.Prelude.{◌≡◌};
+
 /// A received character: its byte, and the errors that came with it.
 #[derive(Clone, Copy, Debug, PartialEq, Eq)]
 pub struct Character {
@@ -13,8 +16,22 @@ pub struct Character {
     pub broken: bool,
 }
 
+impl Character {
+    /// A byte that came without an error.
+    pub const fn unmarked(byte: u8) -> Self
+        ensures { result ≡ without_marks byte }
+    {
+        Character {
+            byte,
+            parity: false,
+            framing: false,
+            broken: false,
+        }
+    }
+}
+
 /// How often each kind of error has happened.
-#[derive(Clone, Copy, Debug, PartialEq, Eq)]
+#[derive(Clone, Copy, Debug, Default, PartialEq, Eq)]
 pub struct Counts {
     /// Characters lost to an overrun.
     pub lost: u64,

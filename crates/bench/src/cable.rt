@@ -9,7 +9,7 @@ ghost use Rattle.bench.specs.State.{state};
 use crate::chip_core::Core;
 use crate::joined::Joined;
 use crate::line::Line;
-use crate::receiver::unmarked;
+use backends::Character;
 
 /// The line that holds what left the chip and arrived.
 #[derive(Drop)]
@@ -33,7 +33,8 @@ impl Cable {
     {
         if let Some(byte) = core.transmitter.held.pop() {
             self.line.put(byte);
-            core.receiver.reach(core.settings.fifos, unmarked(byte));
+            core.receiver
+                .reach(core.settings.fifos, Character::unmarked(byte));
         }
     }
 }

@@ -7,11 +7,11 @@ ghost use Rattle.bench.specs.Receiver.{Room};
 
 use crate::flag::flag;
 use crate::modem::{Modem, ModemLines};
-use crate::receiver::{Receiver, unmarked};
+use crate::receiver::Receiver;
 use crate::ring::Ring;
 use crate::settings::{Fifos, Settings};
 use crate::transmitter::Transmitter;
-use backends::Counts;
+use backends::{Character, Counts};
 use registers::fcr::{FIFO_ENABLE, RX_FIFO_RESET, TX_FIFO_RESET};
 use registers::flags::contains;
 use registers::mcr::LOOP_BACK;
@@ -30,15 +30,10 @@ impl Core {
     pub fn new(fifos: bool, scratch: bool, lines: ModemLines) -> Core
         ensures { Made fifos scratch lines result }
     {
-        let none = Counts {
-            lost: 0,
-            parity: 0,
-            framing: 0,
-            broken: 0,
-        };
+        let none = Counts::default();
         Core {
             receiver: Receiver {
-                queue: Ring::new(unmarked(0)),
+                queue: Ring::new(Character::unmarked(0)),
                 counts: none,
                 seen: none,
             },
@@ -65,7 +60,7 @@ impl Core {
     {
         if self.accepts() {
             if let Some(byte) = self.transmitter.turning.pop() {
-                self.receiver.reach(self.settings.fifos, unmarked(byte));
+                self.receiver.reach(self.settings.fifos, Character::unmarked(byte));
             }
         }
     }

@@ -1,7 +1,7 @@
 //! The receiving side: the queue of unread characters, and the error events.
 
 ghost use Rattle.std.specs.Prelude.{◌≡◌, ℕ, ◌+◌, ◌^◌, ◌<◌};
-ghost use Rattle.backends.specs.Rules.{first as firsts, one_more, unmarked as without_marks};
+ghost use Rattle.backends.specs.Rules.{first as firsts, one_more};
 ghost use Rattle.bench.specs.Receiver.{Room, reached, taken, data_byte, bears_mark, any_marked};
 ghost use Rattle.bench.specs.Settings.{mode};
 
@@ -23,7 +23,7 @@ fn one_more(mark: bool, n: u64) -> u64
     requires { n + 1 < 2 ^ 64 }
     ensures { result ≡ one_more mark n }
 {
-    if mark { n + 1 } else { n }
+    n + u64::from(mark)
 }
 
 /// The events once this character is the first of the waiting.
@@ -36,18 +36,6 @@ fn first(c: Character, n: Counts) -> Counts
         parity: one_more(c.parity, n.parity),
         framing: one_more(c.framing, n.framing),
         broken: one_more(c.broken, n.broken),
-    }
-}
-
-/// A byte without marks.
-pub fn unmarked(byte: u8) -> Character
-    ensures { result ≡ without_marks byte }
-{
-    Character {
-        byte,
-        parity: false,
-        framing: false,
-        broken: false,
     }
 }
 

@@ -25,22 +25,14 @@ impl Fifos {
     pub fn capacity(self) -> u8
         ensures { result ≡ holds (mode self) }
     {
-        match self {
-            Fifos::Absent => 1,
-            Fifos::Off => 1,
-            Fifos::On => 16,
-        }
+        if self.on() { 16 } else { 1 }
     }
 
     /// Whether they are on.
     pub fn on(self) -> bool
         ensures { result ≡ is_on (mode self) }
     {
-        match self {
-            Fifos::Absent => false,
-            Fifos::Off => false,
-            Fifos::On => true,
-        }
+        matches!(self, Fifos::On)
     }
 }
 

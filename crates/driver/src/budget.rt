@@ -5,7 +5,7 @@ ghost use Rattle.std.specs.Prelude.{◌≡◌, ◌+◌, ◌<◌, ◌≤◌, Ok, 
 use registers::error::{BudgetError, Wait};
 
 /// The answer of a call that may wait, and how many of its polls were fruitless.
-#[derive(Clone, Copy)]
+#[derive(Clone, Copy, Debug, PartialEq, Eq)]
 pub struct Waited<T> {
     /// How the call ended.
     pub result: T,
@@ -15,7 +15,7 @@ pub struct Waited<T> {
 
 /// The answer of an exact transfer: how it ended, its fruitless polls, and the bytes that it moved,
 /// also where its budget was used up.
-#[derive(Clone, Copy)]
+#[derive(Clone, Copy, Debug, PartialEq, Eq)]
 pub struct Transferred {
     /// How the call ended.
     pub result: Result<(), BudgetError>,
@@ -27,7 +27,8 @@ pub struct Transferred {
 
 /// The one budget of a call, and the fruitless polls so far.
 // That the count is within the limit is asked for by each function that may wait. It cannot be a
-// fact of the type: a refusal leaves the count at one more than the limit, which is reported.
+// fact of the type: a refusal leaves the count at one more than the limit, which is reported. That
+// the limit stays is a fact of each call that may spend, and no type of a loan says it.
 // Nor does a type hold a budget with its wait: the budget is the call's, the wait each step's.
 #[derive(Drop)]
 pub struct Budget {

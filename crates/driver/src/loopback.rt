@@ -60,6 +60,8 @@ impl<B: Backend> Uart16550<B> {
         polls.waited(result)
     }
 
+    // The place and the budget are two loans of the caller's, which no struct joins more plainly.
+
     /// `test_loopback`, with the budget that it may spend.
     fn loop_test(&mut self, place: &mut [u8; 16], budget: &mut Budget) -> Result<(), LoopbackError>
         requires { budget.old.fruitless ≡ 0 }
@@ -186,7 +188,7 @@ impl<B: Backend> Uart16550<B> {
         if self.fifo_enabled {
             return self.echo(&TEST_MESSAGE, back, budget);
         }
-        // not a zip: what is written to the places that one lends is lost to the proof
+        // a zip with the message was tried: of its places the proof knows nothing, of these it does
         for (i, place) in back.iter_mut().enumerate() {
             let mut one = [0];
             self.echo(&[TEST_MESSAGE[i]], &mut one, budget)?;

@@ -77,6 +77,7 @@ impl<B: Backend> Uart16550<B> {
         ensures sent { SentExactly B.device self.old self.new bytes.now (budget.old.limit - budget.old.fruitless) wait (verdict budget_refusal result.result) (budget.new.fruitless - budget.old.fruitless) result.moved }
     {
         let mut moved = 0;
+        // an index and no iterator: each turn hands on the rest of the slice, from what was taken
         while moved < bytes.len() {
             let count = self.send_bytes(&bytes[moved..]);
             if count == 0 {

@@ -23,8 +23,9 @@ impl<B: Backend> Uart16550<B> {
         self.backend.write(offsets::IER, 0);
         // the divisor's bytes stand behind this bit
         self.backend.write(offsets::LCR, lcr::DLAB);
-        self.backend.write(offsets::DLL, (divisor % 256) as u8);
-        self.backend.write(offsets::DLM, (divisor / 256) as u8);
+        let [high, low] = divisor.to_be_bytes();
+        self.backend.write(offsets::DLL, low);
+        self.backend.write(offsets::DLM, high);
         self.backend.write(offsets::LCR, 0);
         let frame = lcr::frame(
             self.config.data_bits,

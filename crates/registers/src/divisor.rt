@@ -118,6 +118,7 @@ pub fn calc_divisor(
         prescaler_division_factor,
     };
     let divisor = formula.quotient()?;
+    // a test and no `try_from`: the largest divisor has the Rust's name
     if divisor > MAX_DIVISOR {
         return Err(InvalidDivisorError::OutOfRange { divisor });
     }
