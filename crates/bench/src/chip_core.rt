@@ -15,6 +15,10 @@ use backends::{Character, Counts};
 use registers::fcr::{FIFO_ENABLE, RX_FIFO_RESET, TX_FIFO_RESET};
 use registers::flags::contains;
 use registers::mcr::LOOP_BACK;
+use registers::{lsr, offsets};
+
+/// Nothing is held or turns back: the chip has no shift register, so both bits agree.
+const EMPTY: u8 = lsr::THR_EMPTY | lsr::TRANSMITTER_EMPTY;
 
 /// A chip without what is joined to it.
 #[derive(Drop)]
@@ -60,7 +64,8 @@ impl Core {
     {
         if self.accepts() {
             if let Some(byte) = self.transmitter.turning.pop() {
-                self.receiver.reach(self.settings.fifos, Character::unmarked(byte));
+                self.receiver
+                    .reach(self.settings.fifos, Character::unmarked(byte));
             }
         }
     }
@@ -71,13 +76,16 @@ impl Core {
     {
         let counts = self.receiver.counts;
         let seen = self.receiver.seen;
-        flag(self.receiver.queue.len() > 0, 0x01)
-            | flag(seen.lost < counts.lost, 0x02)
-            | flag(seen.parity < counts.parity, 0x04)
-            | flag(seen.framing < counts.framing, 0x08)
-            | flag(seen.broken < counts.broken, 0x10)
-            | flag(self.transmitter.filling() == 0, 0x60)
-            | flag(self.settings.fifos.on() && self.receiver.any_marked(), 0x80)
+        flag(self.receiver.queue.len() > 0, lsr::DATA_READY)
+            | flag(seen.lost < counts.lost, lsr::OVERRUN_ERROR)
+            | flag(seen.parity < counts.parity, lsr::PARITY_ERROR)
+            | flag(seen.framing < counts.framing, lsr::FRAMING_ERROR)
+            | flag(seen.broken < counts.broken, lsr::BREAK_INTERRUPT)
+            | flag(self.transmitter.filling() == 0, EMPTY)
+            | flag(
+                self.settings.fifos.on() && self.receiver.any_marked(),
+                lsr::FIFO_DATA_ERROR,
+            )
     }
 
     /// The interrupt status: no interrupt, and whether the FIFOs are on.
@@ -94,29 +102,29 @@ impl Core {
         ensures state { self.new ≡ answered self.old offset }
     {
         match offset {
-            0 => {
+            offsets::DATA => {
                 if self.settings.divisor_reached() {
                     self.settings.dll
                 } else {
                     self.receiver.take()
                 }
             }
-            1 => {
+            offsets::IER => {
                 if self.settings.divisor_reached() {
                     self.settings.dlm
                 } else {
                     self.settings.ier
                 }
             }
-            2 => self.interrupt_status(),
-            3 => self.settings.lcr,
-            4 => self.settings.mcr,
-            5 => {
+            offsets::ISR => self.interrupt_status(),
+            offsets::LCR => self.settings.lcr,
+            offsets::MCR => self.settings.mcr,
+            offsets::LSR => {
                 let status = self.status();
                 self.receiver.seen = self.receiver.counts;
                 status
             }
-            6 => self.modem.read(self.settings.mcr),
+            offsets::MSR => self.modem.read(self.settings.mcr),
             _ => self.settings.scratch(),
         }
     }
@@ -179,7 +187,7 @@ impl Core {
         ensures { self.new ≡ written self.old offset value }
     {
         match offset {
-            0 => {
+            offsets::DATA => {
                 if self.settings.divisor_reached() {
                     self.settings.dll = value;
                 } else {
@@ -190,17 +198,17 @@ impl Core {
                     );
                 }
             }
-            1 => {
+            offsets::IER => {
                 if self.settings.divisor_reached() {
                     self.settings.dlm = value;
                 } else {
                     self.settings.ier = value;
                 }
             }
-            2 => self.control_fifos(value),
-            3 => self.settings.lcr = value,
-            4 => self.control_modem(value),
-            5 | 6 => {}
+            offsets::FCR => self.control_fifos(value),
+            offsets::LCR => self.settings.lcr = value,
+            offsets::MCR => self.control_modem(value),
+            offsets::LSR | offsets::MSR => {}
             _ => self.settings.keep_scratch(value),
         }
     }

@@ -6,7 +6,7 @@ ghost use Rattle.std.specs.Prelude.{◌≡◌};
 use crate::flag::flag;
 use registers::flags::contains;
 use registers::mcr::{DTR, LOOP_BACK, OUT_1, OUT_2_INT_ENABLE, RTS};
-use registers::msr::modem_line_changes;
+use registers::msr::{CD, CTS, DSR, RI, modem_line_changes};
 
 /// The lines that the other side drives.
 #[derive(Clone, Copy)]
@@ -26,10 +26,10 @@ impl ModemLines {
     fn bits(self) -> u8
         ensures { result ≡ line_bits self }
     {
-        flag(self.clear_to_send, 0x10)
-            | flag(self.data_set_ready, 0x20)
-            | flag(self.ring_indicator, 0x40)
-            | flag(self.carrier_detect, 0x80)
+        flag(self.clear_to_send, CTS)
+            | flag(self.data_set_ready, DSR)
+            | flag(self.ring_indicator, RI)
+            | flag(self.carrier_detect, CD)
     }
 
     /// The outputs of this modem control, as loop mode leads them back.

@@ -18,6 +18,7 @@ pub struct TapeEntry {
 
 /// The entries, how many of them have arrived, and how many accesses have passed since then: at
 /// most 255. The first 65,535 entries are in use.
+// An index and no iterator: the entries before it are lent too.
 #[derive(Drop)]
 pub struct Tape {
     entries: Vec<TapeEntry>,
