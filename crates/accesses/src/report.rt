@@ -28,6 +28,7 @@ impl fmt::Display for Report<'_, '_> {
 #[derive(Drop)]
 struct Row<'a>(&'a Access);
 
+// The letters of a kind belong to a text, and the backends print none.
 impl fmt::Display for Row<'_> {
     fn fmt<W: fmt::Write>(&self, f: &mut fmt::Formatter<W>) -> fmt::Result {
         let kind = match self.0.kind {

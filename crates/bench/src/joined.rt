@@ -22,6 +22,9 @@ pub trait Joined: Drop {
     // the chip stays sound: not among the laws below, since the device's states are made with it
     ghost sound: { (s : State Self) → IsSound came s → IsSound came (ticked s) };
 
+    // The chip is a parameter: the fact that ties it to what is joined does not hold between the steps
+    // of a tick, and a `Simulated` keeps it at every moment.
+
     /// What happens before an access acts.
     fn tick(&mut self, core: &mut Core)
         requires { IsSound came (state core.old self.old) }

@@ -7,6 +7,7 @@ use crate::fault::Fault;
 use std::alloc::Global;
 
 /// The value of a digit, where the character is one.
+// Not the library's: that takes small letters too.
 fn digit(character: u8) -> Option<u8>
     ensures { MatchOption result ((n : ℕ) → ¬ Digit character n) (Digit character) }
 {

@@ -17,6 +17,7 @@ pub struct Line<'a> {
 }
 
 /// How the line was answered, or none where its name is another.
+// Names are told apart by a match: a table of functions would be gone through by hand.
 pub type Answered = Option<Result<(), Fault>>;
 
 impl<'a> Line<'a> {
@@ -79,7 +80,6 @@ impl<'a> Line<'a> {
         requires read { R.IsAlwaysCallable read }
         requires make { M.IsAlwaysCallable make }
     {
-        let asked = self.read(read)?;
-        self.tell(&Value(make(asked)))
+        self.answer(read, |asked| Value(make(asked)))
     }
 }

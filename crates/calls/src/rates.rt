@@ -28,9 +28,11 @@ pub fn answer(line: &mut Line<'_>) -> Answered {
         "dump_rate" => line.answer(
             |words| Ok((words.two()?, words.two()?)),
             |((Octet(low), Octet(high)), (frequency, Optional(prescaler)))| {
-                let mut config = Config::DEFAULT;
-                config.frequency = frequency;
-                config.prescaler_division_factor = prescaler;
+                let config = Config {
+                    frequency,
+                    prescaler_division_factor: prescaler,
+                    ..Config::DEFAULT
+                };
                 Outcome(dump_of(low, high).baud_rate(&config).map(Rate))
             },
         ),

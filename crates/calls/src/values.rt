@@ -50,7 +50,7 @@ impl FromStr for Flag {
 
 impl fmt::Display for Flag {
     fn fmt<W: fmt::Write>(&self, f: &mut fmt::Formatter<W>) -> fmt::Result {
-        f.write_str(if self.0 { "1" } else { "0" })
+        write!(f, "{}", u8::from(self.0))
     }
 }
 
@@ -154,12 +154,7 @@ impl FromStr for DataBits {
 
 impl fmt::Display for DataBits {
     fn fmt<W: fmt::Write>(&self, f: &mut fmt::Formatter<W>) -> fmt::Result {
-        f.write_str(match self.0 {
-            WordLength::FiveBits => "5",
-            WordLength::SixBits => "6",
-            WordLength::SevenBits => "7",
-            WordLength::EightBits => "8",
-        })
+        write!(f, "{}", self.0.to_integer())
     }
 }
 

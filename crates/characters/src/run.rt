@@ -11,10 +11,8 @@ use std::alloc::{AllocError, Global};
 fn entry(byte: u8) -> TapeEntry {
     TapeEntry {
         character: Character {
-            byte,
             parity: byte == 3,
-            framing: false,
-            broken: false,
+            ..Character::unmarked(byte)
         },
         gap: match byte {
             1 => 23,

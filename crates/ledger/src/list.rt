@@ -14,6 +14,7 @@ use registers::config::Config;
 use registers::error::InitError;
 
 /// Makes one call; its buffer is filled in place.
+// A match and no closures: the law speaks of the calls of a list, and of what each answered.
 pub fn perform<B: Backend>(uart: &mut Uart16550<B>, call: &mut Call) -> Answer
     ensures { Did B.device uart.old uart.new call.old call.new (Some result) }
 {

@@ -13,7 +13,7 @@ use registers::offsets;
 /// keep what is written, only the wired bits can be read back.
 #[derive(Drop)]
 pub struct SmallChip {
-    // the ring of the chip that the Rust's driver runs on, so that both chips do the same work
+    // the comparison needs the ring of the chip that the Rust's driver runs on
     ring: [u8; 16],
     head: u8,
     tail: u8,

@@ -54,12 +54,7 @@ fn entry_at(arrival: Arrival, place: u16) -> TapeEntry
     ensures { result ≡ entry_of arrival place }
 {
     TapeEntry {
-        character: Character {
-            byte: byte_at(place),
-            parity: false,
-            framing: false,
-            broken: false,
-        },
+        character: Character::unmarked(byte_at(place)),
         gap: gap_at(arrival, place),
     }
 }
