@@ -16,9 +16,6 @@ enum Waiter {
     Send,
 }
 
-/// What a call does besides its fruitless polls: its accesses, and the bytes that it moves.
-type Rest = (u64, usize);
-
 /// A wait of a call.
 #[derive(Clone, Copy)]
 struct Row {
@@ -28,9 +25,12 @@ struct Row {
     before: &'static [u8],
     poll: &'static [u8],
     after: &'static [u8],
-    /// What is done where the budget is enough, and where it is one too small.
-    enough: Rest,
-    cut: Rest,
+    /// The accesses besides fruitless polls, and the bytes moved, where the budget is enough.
+    accesses: u64,
+    moved: usize,
+    /// The same where it is one too small.
+    cut_accesses: u64,
+    cut_moved: usize,
 }
 
 const BUDGETS: [u16; 3] = [0, 1, 65_535];
@@ -45,8 +45,10 @@ const WAITS: [Row; 10] = [
         before: &[0x00, 0x42, 0x73, 0xC1, 0x60],
         poll: &[0x20],
         after: &[0x60, 0x60, 0xC1, 0xB0],
-        enough: (22, 0),
-        cut: (17, 0),
+        accesses: 22,
+        moved: 0,
+        cut_accesses: 17,
+        cut_moved: 0,
     },
     // the two registers; nothing is restored
     Row {
@@ -56,8 +58,10 @@ const WAITS: [Row; 10] = [
         poll: &[0x20],
         after: b"\x60\xB0\xC1\x60\x60\x61\x42\x60\x61h\x61e\x61l\x61l\x61o\x61 \x61w\x61o\x61r\
             \x61l\x61d\x61!\x611\x613\x613\x617\xB0",
-        enough: (66, 0),
-        cut: (2, 0),
+        accesses: 66,
+        moved: 0,
+        cut_accesses: 2,
+        cut_moved: 0,
     },
     // 2, the transmitter 1, into loop mode 3, FIFOs 2, restoring 4
     Row {
@@ -67,8 +71,10 @@ const WAITS: [Row; 10] = [
         poll: &[0x61, 0x99],
         after: b"\x60\x60\x61\x42\x60\x61h\x61e\x61l\x61l\x61o\x61 \x61w\x61o\x61r\x61l\x61d\
             \x61!\x611\x613\x613\x617\xB0",
-        enough: (66, 0),
-        cut: (12, 0),
+        accesses: 66,
+        moved: 0,
+        cut_accesses: 12,
+        cut_moved: 0,
     },
     // those 12, the drain 1, the question and the byte 2
     Row {
@@ -78,8 +84,10 @@ const WAITS: [Row; 10] = [
         poll: &[0x60],
         after: b"\x61\x42\x60\x61h\x61e\x61l\x61l\x61o\x61 \x61w\x61o\x61r\x61l\x61d\x61!\x611\
             \x613\x613\x617\xB0",
-        enough: (66, 0),
-        cut: (15, 0),
+        accesses: 66,
+        moved: 0,
+        cut_accesses: 15,
+        cut_moved: 0,
     },
     // those 15, and the byte that came back 2
     Row {
@@ -89,8 +97,10 @@ const WAITS: [Row; 10] = [
         poll: &[0x00],
         after: b"\x60\x61h\x61e\x61l\x61l\x61o\x61 \x61w\x61o\x61r\x61l\x61d\x61!\x611\x613\
             \x613\x617\xB0",
-        enough: (66, 0),
-        cut: (17, 0),
+        accesses: 66,
+        moved: 0,
+        cut_accesses: 17,
+        cut_moved: 0,
     },
     // those 17, the question and 16 bytes, and 15 bytes that came back 30
     Row {
@@ -100,8 +110,10 @@ const WAITS: [Row; 10] = [
             \x61o\x61r\x61l\x61d\x61!\x611\x613\x613",
         poll: &[0x60],
         after: &[0x61, 0x37, 0xB0],
-        enough: (66, 0),
-        cut: (64, 0),
+        accesses: 66,
+        moved: 0,
+        cut_accesses: 64,
+        cut_moved: 0,
     },
     // without FIFOs, at the second byte: those 17, and 4 for the first
     Row {
@@ -111,8 +123,10 @@ const WAITS: [Row; 10] = [
         poll: &[0x40],
         after: b"\x60\x61e\x60\x61l\x60\x61l\x60\x61o\x60\x61 \x60\x61w\x60\x61o\x60\x61r\x60\
             \x61l\x60\x61d\x60\x61!\x60\x611\x60\x613\x60\x613\x60\x617\xB0",
-        enough: (81, 0),
-        cut: (21, 0),
+        accesses: 81,
+        moved: 0,
+        cut_accesses: 21,
+        cut_moved: 0,
     },
     // without FIFOs, at the last byte: those 17, 60 for the others, the question and the byte 2
     Row {
@@ -123,8 +137,10 @@ const WAITS: [Row; 10] = [
             \x613\x60\x613\x60",
         poll: &[0x60],
         after: &[0x61, 0x37, 0xB0],
-        enough: (81, 0),
-        cut: (79, 0),
+        accesses: 81,
+        moved: 0,
+        cut_accesses: 79,
+        cut_moved: 0,
     },
     // three places, and the wait is for the second character
     Row {
@@ -133,8 +149,10 @@ const WAITS: [Row; 10] = [
         before: &[0x61, 0x41],
         poll: &[0x60],
         after: &[0x61, 0x42, 0x61, 0x43],
-        enough: (6, 3),
-        cut: (2, 1),
+        accesses: 6,
+        moved: 3,
+        cut_accesses: 2,
+        cut_moved: 1,
     },
     // twenty bytes, and the wait is after the first sixteen
     Row {
@@ -143,8 +161,10 @@ const WAITS: [Row; 10] = [
         before: &[0x60],
         poll: &[0x40],
         after: &[0x60],
-        enough: (22, 20),
-        cut: (17, 16),
+        accesses: 22,
+        moved: 20,
+        cut_accesses: 17,
+        cut_moved: 16,
     },
 ];
 
@@ -158,31 +178,19 @@ fn call(waiter: Waiter, budget: u16) -> Call {
     }
 }
 
-/// The answer of a call whose budget was enough.
-fn done(waiter: Waiter, fruitless: u32, moved: usize) -> Answer {
+/// The answer of a call that ends so.
+fn answer(waiter: Waiter, ended: Result<(), BudgetError>, fruitless: u32, moved: usize) -> Answer {
     match waiter {
-        Waiter::Init => Answer::Init(Ok(()), fruitless),
-        Waiter::Loopback => Answer::Loopback(Ok(()), fruitless),
-        Waiter::Receive | Waiter::Send => Answer::Exact(Ok(()), fruitless, moved),
-    }
-}
-
-/// The answer of a call whose budget was used up.
-fn used_up(waiter: Waiter, wait: Wait, fruitless: u32, moved: usize) -> Answer {
-    let error = BudgetError { wait };
-    match waiter {
-        Waiter::Init => Answer::Init(Err(InitError::BudgetUsedUp(error)), fruitless),
-        Waiter::Loopback => Answer::Loopback(Err(LoopbackError::BudgetUsedUp(error)), fruitless),
-        Waiter::Receive | Waiter::Send => Answer::Exact(Err(error), fruitless, moved),
+        Waiter::Init => Answer::Init(ended.map_err(InitError::from), fruitless),
+        Waiter::Loopback => Answer::Loopback(ended.map_err(LoopbackError::from), fruitless),
+        Waiter::Receive | Waiter::Send => Answer::Exact(ended, fruitless, moved),
     }
 }
 
 /// What the reads give with so many fruitless polls, and these bytes after them.
 fn reads(heap: Global, row: &Row, polls: u32, after: &[u8]) -> Result<Vec<u8>, Fail> {
     let mut bytes = row.before.to_vec(heap)?;
-    for _ in 0..polls {
-        bytes.extend_from_slice(row.poll)?;
-    }
+    bytes.extend_from_slice(&row.poll.repeat(heap, polls as usize)?)?;
     bytes.extend_from_slice(after)?;
     Ok(bytes)
 }
@@ -201,21 +209,20 @@ fn at_its_edge(rt: &impl Abort, heap: Global, row: &Row, budget: u16) -> Result<
     let polls = u32::from(budget);
     let each = row.poll.len() as u64;
     let spent = each.saturating_mul(u64::from(budget));
-    let (accesses, moved) = row.enough;
     make(
         rt,
         &reads(heap, row, polls, row.after)?,
         call,
-        done(row.waiter, polls, moved),
-        spent.saturating_add(accesses),
+        answer(row.waiter, Ok(()), polls, row.moved),
+        spent.saturating_add(row.accesses),
     )?;
-    let (accesses, moved) = row.cut;
+    let refused = Err(BudgetError { wait: row.wait });
     make(
         rt,
         &reads(heap, row, polls + 1, &[0xB0])?,
         call,
-        used_up(row.waiter, row.wait, polls + 1, moved),
-        spent.saturating_add(each).saturating_add(accesses),
+        answer(row.waiter, refused, polls + 1, row.cut_moved),
+        spent.saturating_add(each).saturating_add(row.cut_accesses),
     )
 }
 
@@ -243,7 +250,8 @@ const ONE_BUDGET: [Step; 2] = [
         ),
         accesses: "r4=0B r1=05 r5=20 r5=60 r6=B0 w1=00 w4=10 w2=C7 r2=C1 r5=61 r0=99 r5=60 \
             r5=60 w0=42 r5=60 r5=61 r0=42 r5=00 w4=03 r6=B0 w4=0B w1=05",
-        saved: (0, 0),
+        lsr_saved: 0,
+        msr_saved: 0,
     },
     Step {
         call: Call::Loopback(4),
@@ -258,7 +266,8 @@ const ONE_BUDGET: [Step; 2] = [
             r5=60 w0=42 r5=60 r5=61 r0=42 r5=00 r5=60 w0=68 w0=65 w0=6C w0=6C w0=6F w0=20 w0=77 \
             w0=6F w0=72 w0=6C w0=64 w0=21 w0=31 w0=33 w0=33 w0=37 r5=61 r0=68 r5=60 w4=03 r6=B0 \
             w4=0B w1=05",
-        saved: (0, 0),
+        lsr_saved: 0,
+        msr_saved: 0,
     },
 ];
 

@@ -16,14 +16,16 @@ const SET_UP_AND_BYTES: [Step; 9] = [
         reads: &[0x5A, 0x00],
         answer: Answer::Init(Err(InitError::DeviceNotPresent), 0),
         accesses: "r7=5A w7=42 r7=00 w7=5A",
-        saved: (0, 0),
+        lsr_saved: 0,
+        msr_saved: 0,
     },
     Step {
         call: Call::Init(Config::DEFAULT, 5),
         reads: &[0x5A, 0x42, 0x42],
         answer: Answer::Init(Err(InitError::DeviceNotPresent), 0),
         accesses: "r7=5A w7=42 r7=42 w7=73 r7=42 w7=5A",
-        saved: (0, 0),
+        lsr_saved: 0,
+        msr_saved: 0,
     },
     Step {
         call: Call::Init(Config::DEFAULT, 1),
@@ -36,35 +38,40 @@ const SET_UP_AND_BYTES: [Step; 9] = [
         ),
         accesses: "r7=5A w7=42 r7=42 w7=73 r7=73 w7=5A w3=00 w1=00 w3=80 w0=0C w1=00 w3=00 \
             w3=03 w2=C7 r2=C1 r5=61 r0=41 r5=60 w4=0B r5=20 r5=20",
-        saved: (0, 0),
+        lsr_saved: 0,
+        msr_saved: 0,
     },
     Step {
         call: Call::Look(Look::ReadyToReceive),
         reads: &[0x60],
         answer: Answer::Ready(Err(ByteReceiveError)),
         accesses: "r5=60",
-        saved: (0, 0),
+        lsr_saved: 0,
+        msr_saved: 0,
     },
     Step {
         call: Call::TryReceive,
         reads: &[0x60, 0x41],
         answer: Answer::Byte(Err(ByteReceiveError)),
         accesses: "r5=60",
-        saved: (0, 0),
+        lsr_saved: 0,
+        msr_saved: 0,
     },
     Step {
         call: Call::Look(Look::ReadyToSend),
         reads: &[0x41],
         answer: Answer::Sent(Err(ByteSendError::NoCapacity)),
         accesses: "r5=41",
-        saved: (0, 0),
+        lsr_saved: 0,
+        msr_saved: 0,
     },
     Step {
         call: Call::TrySend(0x55),
         reads: &[0x00],
         answer: Answer::Sent(Err(ByteSendError::NoCapacity)),
         accesses: "r5=00",
-        saved: (0, 0),
+        lsr_saved: 0,
+        msr_saved: 0,
     },
     Step {
         call: Call::ReceiveExact(1),
@@ -77,14 +84,16 @@ const SET_UP_AND_BYTES: [Step; 9] = [
             1,
         ),
         accesses: "r5=60 r5=61 r0=41 r5=60",
-        saved: (0, 0),
+        lsr_saved: 0,
+        msr_saved: 0,
     },
     Step {
         call: Call::SendExact(1),
         reads: &[0x01, 0x41],
         answer: Answer::Exact(Err(BudgetError { wait: Wait::Send }), 2, 0),
         accesses: "r5=01 r5=41",
-        saved: (0, 0),
+        lsr_saved: 0,
+        msr_saved: 0,
     },
 ];
 
@@ -101,7 +110,8 @@ const LOOPBACK: [Step; 5] = [
             1,
         ),
         accesses: "r4=0B r1=05 r5=20",
-        saved: (0, 0),
+        lsr_saved: 0,
+        msr_saved: 0,
     },
     Step {
         call: Call::Loopback(0),
@@ -112,7 +122,8 @@ const LOOPBACK: [Step; 5] = [
         ),
         accesses: "r4=0B r1=05 r5=60 r6=B0 w1=00 w4=10 w2=C7 r2=C1 r5=61 r0=99 w4=03 r6=B0 \
             w4=0B w1=05",
-        saved: (0, 0),
+        lsr_saved: 0,
+        msr_saved: 0,
     },
     Step {
         call: Call::Loopback(0),
@@ -120,7 +131,8 @@ const LOOPBACK: [Step; 5] = [
         answer: Answer::Loopback(Err(LoopbackError::SendError(ByteSendError::NoCapacity)), 0),
         accesses: "r4=0B r1=05 r5=60 r6=B0 w1=00 w4=10 w2=C7 r2=C1 r5=60 r5=40 w4=03 r6=B0 \
             w4=0B w1=05",
-        saved: (0, 0),
+        lsr_saved: 0,
+        msr_saved: 0,
     },
     Step {
         call: Call::Loopback(0),
@@ -131,7 +143,8 @@ const LOOPBACK: [Step; 5] = [
         ),
         accesses: "r4=0B r1=05 r5=60 r6=B0 w1=00 w4=10 w2=C7 r2=C1 r5=60 r5=60 w0=42 r5=61 \
             r0=43 w4=03 r6=B0 w4=0B w1=05",
-        saved: (0, 0),
+        lsr_saved: 0,
+        msr_saved: 0,
     },
     // the last byte of `hello world!1337` comes back as a 6
     Step {
@@ -144,7 +157,8 @@ const LOOPBACK: [Step; 5] = [
             w0=31 w0=33 w0=33 w0=37 r5=61 r0=68 r5=61 r0=65 r5=61 r0=6C r5=61 r0=6C r5=61 r0=6F \
             r5=61 r0=20 r5=61 r0=77 r5=61 r0=6F r5=61 r0=72 r5=61 r0=6C r5=61 r0=64 r5=61 r0=21 \
             r5=61 r0=31 r5=61 r0=33 r5=61 r0=33 r5=61 r0=36 w4=03 r6=B0 w4=0B w1=05",
-        saved: (0, 0),
+        lsr_saved: 0,
+        msr_saved: 0,
     },
 ];
 
@@ -156,14 +170,16 @@ const REMOTE: [Step; 10] = [
         answer: Answer::Init(Ok(()), 0),
         accesses: "r7=00 w7=42 r7=42 w7=73 r7=73 w7=00 w3=00 w1=00 w3=80 w0=0C w1=00 w3=00 \
             w3=03 w2=C7 r2=C1 r5=60 w4=0B r5=60 r5=60 r2=C1 r6=B0 w1=00",
-        saved: (0, 0),
+        lsr_saved: 0,
+        msr_saved: 0,
     },
     Step {
         call: Call::Look(Look::ReadyToSend),
         reads: &[0x60, 0x0B, 0xE0],
         answer: Answer::Sent(Err(ByteSendError::RemoteNotClearToSend)),
         accesses: "r5=60 r4=0B r6=E0",
-        saved: (0, 0),
+        lsr_saved: 0,
+        msr_saved: 0,
     },
     // 11 is given for 12 too
     Step {
@@ -171,14 +187,16 @@ const REMOTE: [Step; 10] = [
         reads: &[0x60, 0x0B, 0xE0],
         answer: Answer::Sent(Err(ByteSendError::NoCapacity)),
         accesses: "r5=60 r4=0B r6=E0",
-        saved: (0, 0),
+        lsr_saved: 0,
+        msr_saved: 0,
     },
     Step {
         call: Call::TrySend(0x55),
         reads: &[0x60, 0x0B, 0x10],
         answer: Answer::Sent(Ok(())),
         accesses: "r5=60 r4=0B r6=10 w0=55",
-        saved: (0, 0),
+        lsr_saved: 0,
+        msr_saved: 0,
     },
     // in loop mode the line does not count
     Step {
@@ -186,35 +204,40 @@ const REMOTE: [Step; 10] = [
         reads: &[0x60, 0x10],
         answer: Answer::Sent(Ok(())),
         accesses: "r5=60 r4=10 w0=55",
-        saved: (0, 0),
+        lsr_saved: 0,
+        msr_saved: 0,
     },
     Step {
         call: Call::SendExact(1),
         reads: &[0x60, 0x0B, 0xE0, 0x60, 0x0B, 0xE0],
         answer: Answer::Exact(Err(BudgetError { wait: Wait::Send }), 2, 0),
         accesses: "r5=60 r4=0B r6=E0 r5=60 r4=0B r6=E0",
-        saved: (0, 0),
+        lsr_saved: 0,
+        msr_saved: 0,
     },
     Step {
         call: Call::Look(Look::CheckConnected),
         reads: &[0xD0],
         answer: Answer::Connected(Err(RemoteReadyToReceiveError::NoRemoteConnectedNoDSR)),
         accesses: "r6=D0",
-        saved: (0, 0),
+        lsr_saved: 0,
+        msr_saved: 0,
     },
     Step {
         call: Call::Look(Look::CheckConnected),
         reads: &[0xE0],
         answer: Answer::Connected(Err(RemoteReadyToReceiveError::RemoteNotClearToSend)),
         accesses: "r6=E0",
-        saved: (0, 0),
+        lsr_saved: 0,
+        msr_saved: 0,
     },
     Step {
         call: Call::Look(Look::CheckConnected),
         reads: &[0x30],
         answer: Answer::Connected(Ok(())),
         accesses: "r6=30",
-        saved: (0, 0),
+        lsr_saved: 0,
+        msr_saved: 0,
     },
     // a device that does not show loop mode, and no clear-to-send
     Step {
@@ -223,7 +246,8 @@ const REMOTE: [Step; 10] = [
         answer: Answer::Loopback(Err(LoopbackError::SendError(ByteSendError::NoCapacity)), 0),
         accesses: "r4=0B r1=05 r5=60 r6=B0 w1=00 w4=10 w2=C7 r2=C1 r5=60 r5=60 r4=00 r6=00 \
             w4=03 r6=B0 w4=0B w1=05",
-        saved: (0, 0),
+        lsr_saved: 0,
+        msr_saved: 0,
     },
 ];
 

@@ -1,7 +1,7 @@
 //! Calls as rows of a table, on a scripted device whose accesses are recorded.
 
-use backends::{Kind, Recorder, Script};
-use driver::{Transferred, Uart16550};
+use backends::{Access, Kind, Recorder, Script};
+use driver::{Transferred, Uart16550, Waited};
 use registers::config::Config;
 use registers::dump::ConfigRegisterDump;
 use registers::error::{
@@ -9,7 +9,7 @@ use registers::error::{
     RemoteReadyToReceiveError,
 };
 use std::alloc::Global;
-use std::fmt::Write;
+use std::fmt;
 use std::process::Abort;
 use std::test::*;
 
@@ -71,6 +71,24 @@ pub enum Answer {
     Dump(ConfigRegisterDump),
 }
 
+impl From<Waited<Result<(), InitError>>> for Answer {
+    fn from(waited: Waited<Result<(), InitError>>) -> Answer {
+        Answer::Init(waited.result, waited.fruitless)
+    }
+}
+
+impl From<Waited<Result<(), LoopbackError>>> for Answer {
+    fn from(waited: Waited<Result<(), LoopbackError>>) -> Answer {
+        Answer::Loopback(waited.result, waited.fruitless)
+    }
+}
+
+impl From<Transferred> for Answer {
+    fn from(done: Transferred) -> Answer {
+        Answer::Exact(done.result, done.fruitless, done.moved)
+    }
+}
+
 /// A call, and what it must do.
 #[derive(Clone, Copy)]
 pub struct Step {
@@ -83,7 +101,8 @@ pub struct Step {
     /// Its accesses: `r5=60` is a read of the register at offset 5 that gave 60, `w0=42` a write.
     pub accesses: &'static str,
     /// The saved line status and modem status after it.
-    pub saved: (u8, u8),
+    pub lsr_saved: u8,
+    pub msr_saved: u8,
 }
 
 /// A new driver over a device whose reads give these bytes.
@@ -96,48 +115,40 @@ pub fn replace<'a>(device: &mut Device<'a>, reads: &'a [u8]) {
     *device.backend_mut() = Recorder::new(Script::new(reads));
 }
 
-/// The accesses that were made, each a word as in `Step`.
-fn accesses(heap: Global, device: &Device<'_>) -> Result<String, Fail> {
-    let mut out = String::new(heap);
-    for access in device.backend().log().recorded() {
-        if !out.is_empty() {
-            out.push_str(" ")?;
-        }
-        let way = match access.kind {
-            Kind::Read => "r",
-            Kind::Write => "w",
-        };
-        let offset = access.offset;
-        let value = access.value;
-        write!(out, "{way}{offset}={value:02X}")?;
-    }
-    Ok(out)
-}
+/// Accesses as in `Step`, with a blank before each.
+#[derive(Drop)]
+struct Accesses<'a>(&'a [Access]);
 
-/// How an exact transfer ended.
-fn exact(moved: Transferred) -> Answer {
-    Answer::Exact(moved.result, moved.fruitless, moved.moved)
+impl fmt::Display for Accesses<'_> {
+    fn fmt<W: fmt::Write>(&self, f: &mut fmt::Formatter<W>) -> fmt::Result {
+        for access in self.0 {
+            let way = match access.kind {
+                Kind::Read => 'r',
+                Kind::Write => 'w',
+            };
+            let offset = access.offset;
+            let value = access.value;
+            write!(f, " {way}{offset}={value:02X}")?;
+        }
+        Ok(())
+    }
 }
 
 /// Makes a call.
 pub fn perform(device: &mut Device<'_>, call: Call) -> Answer {
     match call {
-        Call::Init(config, budget) => {
-            let waited = device.init(config, budget);
-            Answer::Init(waited.result, waited.fruitless)
-        }
+        Call::Init(config, budget) => Answer::from(device.init(config, budget)),
         Call::Loopback(budget) => {
-            let waited = device.test_loopback(&mut [UNTOUCHED; 16], budget);
-            Answer::Loopback(waited.result, waited.fruitless)
+            Answer::from(device.test_loopback(&mut [UNTOUCHED; 16], budget))
         }
         Call::TryReceive => Answer::Byte(device.try_receive_byte()),
         Call::Receive => Answer::Count(device.receive_bytes(&mut [UNTOUCHED; 3])),
         Call::ReceiveExact(budget) => {
-            exact(device.receive_bytes_exact(&mut [UNTOUCHED; 3], budget))
+            Answer::from(device.receive_bytes_exact(&mut [UNTOUCHED; 3], budget))
         }
         Call::TrySend(byte) => Answer::Sent(device.try_send_byte(byte)),
         Call::Send => Answer::Count(device.send_bytes(&SHORT)),
-        Call::SendExact(budget) => exact(device.send_bytes_exact(&LONG, budget)),
+        Call::SendExact(budget) => Answer::from(device.send_bytes_exact(&LONG, budget)),
         Call::Look(look) => answer_to(device, look),
     }
 }
@@ -168,10 +179,11 @@ fn make(
         "{}",
         step.accesses
     );
-    assert_eq!(rt; accesses(heap, device)?.as_str(), step.accesses);
+    let made = format!(in heap; "{}", Accesses(device.backend().log().recorded()))?;
+    assert_eq!(rt; made.trim_start(), step.accesses);
     assert_eq!(rt;
         (device.lsr_saved(), device.msr_saved()),
-        step.saved,
+        (step.lsr_saved, step.msr_saved),
         "{}",
         step.accesses
     );

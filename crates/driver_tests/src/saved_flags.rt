@@ -17,14 +17,16 @@ const KEPT_UNTIL_TOLD: [Step; 17] = [
         reads: &[0x63, 0x41, 0x64],
         answer: Answer::Count(1),
         accesses: "r5=63 r0=41 r5=64",
-        saved: (0x06, 0x00),
+        lsr_saved: 0x06,
+        msr_saved: 0x00,
     },
     Step {
         call: Call::Send,
         reads: &[0x68],
         answer: Answer::Count(3),
         accesses: "r5=68 w0=48 w0=69 w0=21",
-        saved: (0x0E, 0x00),
+        lsr_saved: 0x0E,
+        msr_saved: 0x00,
     },
     // 80 and the bits for ready are no errors of one character
     Step {
@@ -32,21 +34,24 @@ const KEPT_UNTIL_TOLD: [Step; 17] = [
         reads: &[0xE1, 0x42],
         answer: Answer::Byte(Ok(0x42)),
         accesses: "r5=E1 r0=42",
-        saved: (0x0E, 0x00),
+        lsr_saved: 0x0E,
+        msr_saved: 0x00,
     },
     Step {
         call: Call::Look(Look::ReadyToReceive),
         reads: &[0x70],
         answer: Answer::Ready(Err(ByteReceiveError)),
         accesses: "r5=70",
-        saved: (0x1E, 0x00),
+        lsr_saved: 0x1E,
+        msr_saved: 0x00,
     },
     Step {
         call: Call::Look(Look::CheckConnected),
         reads: &[0x31],
         answer: Answer::Connected(Ok(())),
         accesses: "r6=31",
-        saved: (0x1E, 0x01),
+        lsr_saved: 0x1E,
+        msr_saved: 0x01,
     },
     Step {
         call: Call::Look(Look::Dump),
@@ -63,7 +68,8 @@ const KEPT_UNTIL_TOLD: [Step; 17] = [
             dlm: 0x00,
         }),
         accesses: "r3=03 w3=83 r0=0C r1=00 w3=03 r1=05 r2=C1 r3=03 r4=0B r5=60 r6=B4 r7=5A",
-        saved: (0x1E, 0x05),
+        lsr_saved: 0x1E,
+        msr_saved: 0x05,
     },
     Step {
         call: Call::Look(Look::Dump),
@@ -80,21 +86,24 @@ const KEPT_UNTIL_TOLD: [Step; 17] = [
             dlm: 0x02,
         }),
         accesses: "r3=83 w3=83 r0=01 r1=02 w3=83 r1=00 r2=01 r3=83 r4=00 r5=20 r6=00 r7=FF",
-        saved: (0x1E, 0x05),
+        lsr_saved: 0x1E,
+        msr_saved: 0x05,
     },
     Step {
         call: Call::Look(Look::Lsr),
         reads: &[0x60],
         answer: Answer::Register(0x7E),
         accesses: "r5=60",
-        saved: (0x00, 0x05),
+        lsr_saved: 0x00,
+        msr_saved: 0x05,
     },
     Step {
         call: Call::Look(Look::Lsr),
         reads: &[0x60],
         answer: Answer::Register(0x60),
         accesses: "r5=60",
-        saved: (0x00, 0x05),
+        lsr_saved: 0x00,
+        msr_saved: 0x05,
     },
     // what the getter reads itself is told, and not kept
     Step {
@@ -102,21 +111,24 @@ const KEPT_UNTIL_TOLD: [Step; 17] = [
         reads: &[0xFF],
         answer: Answer::Register(0xFF),
         accesses: "r5=FF",
-        saved: (0x00, 0x05),
+        lsr_saved: 0x00,
+        msr_saved: 0x05,
     },
     Step {
         call: Call::Look(Look::Msr),
         reads: &[0xB8],
         answer: Answer::Register(0xBD),
         accesses: "r6=B8",
-        saved: (0x00, 0x00),
+        lsr_saved: 0x00,
+        msr_saved: 0x00,
     },
     Step {
         call: Call::Look(Look::Msr),
         reads: &[0xB0],
         answer: Answer::Register(0xB0),
         accesses: "r6=B0",
-        saved: (0x00, 0x00),
+        lsr_saved: 0x00,
+        msr_saved: 0x00,
     },
     // a dump alone keeps what it reads
     Step {
@@ -134,35 +146,40 @@ const KEPT_UNTIL_TOLD: [Step; 17] = [
             dlm: 0x00,
         }),
         accesses: "r3=03 w3=83 r0=0C r1=00 w3=03 r1=05 r2=C1 r3=03 r4=0B r5=62 r6=B2 r7=5A",
-        saved: (0x02, 0x02),
+        lsr_saved: 0x02,
+        msr_saved: 0x02,
     },
     Step {
         call: Call::ReceiveExact(1),
         reads: &[0x64, 0x61, 0x41, 0x69, 0x42, 0x61, 0x43],
         answer: Answer::Exact(Ok(()), 1, 3),
         accesses: "r5=64 r5=61 r0=41 r5=69 r0=42 r5=61 r0=43",
-        saved: (0x0E, 0x02),
+        lsr_saved: 0x0E,
+        msr_saved: 0x02,
     },
     Step {
         call: Call::SendExact(0),
         reads: &[0x10],
         answer: Answer::Exact(Err(BudgetError { wait: Wait::Send }), 1, 0),
         accesses: "r5=10",
-        saved: (0x1E, 0x02),
+        lsr_saved: 0x1E,
+        msr_saved: 0x02,
     },
     Step {
         call: Call::Look(Look::Msr),
         reads: &[0x00],
         answer: Answer::Register(0x02),
         accesses: "r6=00",
-        saved: (0x1E, 0x00),
+        lsr_saved: 0x1E,
+        msr_saved: 0x00,
     },
     Step {
         call: Call::Look(Look::Lsr),
         reads: &[0x61],
         answer: Answer::Register(0x7F),
         accesses: "r5=61",
-        saved: (0x00, 0x00),
+        lsr_saved: 0x00,
+        msr_saved: 0x00,
     },
 ];
 
@@ -180,21 +197,24 @@ const SET_UP_AND_LOOPBACK: [Step; 7] = [
         ),
         accesses: "r7=00 w7=42 r7=42 w7=73 r7=73 w7=00 w3=00 w1=00 w3=80 w0=0C w1=00 w3=00 \
             w3=03 w2=C7 r2=C1 r5=7E w4=0B r5=22 r5=28",
-        saved: (0x0A, 0x00),
+        lsr_saved: 0x0A,
+        msr_saved: 0x00,
     },
     Step {
         call: Call::Look(Look::CheckConnected),
         reads: &[0x34],
         answer: Answer::Connected(Ok(())),
         accesses: "r6=34",
-        saved: (0x0A, 0x04),
+        lsr_saved: 0x0A,
+        msr_saved: 0x04,
     },
     Step {
         call: Call::Init(Config::DEFAULT, 0),
         reads: &[0x00, 0x00],
         answer: Answer::Init(Err(InitError::DeviceNotPresent), 0),
         accesses: "r7=00 w7=42 r7=00 w7=00",
-        saved: (0x0A, 0x04),
+        lsr_saved: 0x0A,
+        msr_saved: 0x04,
     },
     // its wait saw the 04; what loop mode showed is forgotten. The carrier went off between the
     // two looks at the modem lines; the changes that the second shows are the test's own
@@ -204,7 +224,8 @@ const SET_UP_AND_LOOPBACK: [Step; 7] = [
         answer: Answer::Loopback(Err(LoopbackError::SendError(ByteSendError::NoCapacity)), 1),
         accesses: "r4=0B r1=05 r5=24 r5=60 r6=B1 w1=00 w4=10 w2=C7 r2=C1 r5=70 r5=1E w4=03 \
             r6=37 w4=0B w1=05",
-        saved: (0x0E, 0x0D),
+        lsr_saved: 0x0E,
+        msr_saved: 0x0D,
     },
     // an accepted one forgets all
     Step {
@@ -213,7 +234,8 @@ const SET_UP_AND_LOOPBACK: [Step; 7] = [
         answer: Answer::Init(Ok(()), 1),
         accesses: "r7=00 w7=42 r7=42 w7=73 r7=73 w7=00 w3=00 w1=00 w3=80 w0=0C w1=00 w3=00 \
             w3=03 w2=C7 r2=C1 r5=60 w4=0B r5=22 r5=60 r5=7E r2=C1 r6=BF w1=00",
-        saved: (0x00, 0x00),
+        lsr_saved: 0x00,
+        msr_saved: 0x00,
     },
     // the question whether something may be sent saves of both
     Step {
@@ -221,14 +243,16 @@ const SET_UP_AND_LOOPBACK: [Step; 7] = [
         reads: &[0x62, 0x0B, 0xEA],
         answer: Answer::Sent(Err(ByteSendError::RemoteNotClearToSend)),
         accesses: "r5=62 r4=0B r6=EA",
-        saved: (0x02, 0x0A),
+        lsr_saved: 0x02,
+        msr_saved: 0x0A,
     },
     Step {
         call: Call::Send,
         reads: &[0x70, 0x0B, 0x15],
         answer: Answer::Count(3),
         accesses: "r5=70 r4=0B r6=15 w0=48 w0=69 w0=21",
-        saved: (0x12, 0x0F),
+        lsr_saved: 0x12,
+        msr_saved: 0x0F,
     },
 ];
 
