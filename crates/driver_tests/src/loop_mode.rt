@@ -35,6 +35,8 @@ const BITS: [u8; 8] = [0x01, 0x02, 0x04, 0x08, 0x10, 0x20, 0x40, 0x80];
 #[derive(Clone, Copy)]
 struct Run {
     length: WordLength,
+    /// The bits of a byte that the word carries.
+    mask: u8,
     fifos: bool,
     byte: u8,
     message: [u8; 16],
@@ -48,15 +50,9 @@ struct Run {
 fn reads(run: &Run) -> [u8; 58] {
     let mut reads = [0xB0; 58];
     let isr = if run.fifos { 0xC1 } else { 0x01 };
-    reads[0] = 0x0B;
-    reads[1] = 0x05;
-    reads[2] = 0x60;
-    reads[4] = isr;
-    reads[5] = 0x60;
-    reads[6] = 0x60;
-    reads[7] = 0x61;
-    reads[8] = run.byte;
-    reads[9] = 0x60;
+    reads[..10].copy_from_slice(&[
+        0x0B, 0x05, 0x60, 0xB0, isr, 0x60, 0x60, 0x61, run.byte, 0x60,
+    ]);
     // without FIFOs three reads for each byte, with them two
     let each = if run.fifos { 2 } else { 3 };
     for (of_byte, byte) in reads[10..].chunks_exact_mut(each).zip(run.message) {
@@ -92,64 +88,56 @@ fn test(rt: &impl Abort, run: &Run) -> Result<(), Fail> {
     Ok(())
 }
 
-/// A run in which what was sent comes back, with only these bits, and others set.
-fn good(length: WordLength, fifos: bool, bits: u8, others: u8) -> Run {
-    let mut message = MESSAGE;
-    for byte in message.iter_mut() {
-        *byte = (*byte & bits) | others;
-    }
+/// A run in which what was sent comes back, with only the word's bits, and others set.
+fn good(length: WordLength, mask: u8, fifos: bool, others: u8) -> Run {
+    let back = |byte: u8| (byte & mask) | others;
     Run {
         length,
+        mask,
         fifos,
-        byte: (BYTE & bits) | others,
-        message,
+        byte: back(BYTE),
+        message: MESSAGE.map(back),
         result: Ok(()),
         place: EMPTY,
         count: if fifos { 66 } else { 81 },
     }
 }
 
-/// A run in which this bit of the test byte is wrong. One that the word does not carry makes no
-/// difference.
-fn wrong_byte(run: Run, bit: u8, carries: bool) -> Run {
-    let byte = run.byte ^ bit;
-    if !carries {
-        return Run { byte, ..run };
-    }
-    Run {
-        byte,
-        result: Err(LoopbackError::UnexpectedLoopbackByte { actual: byte }),
-        count: 17,
-        ..run
-    }
+/// Whether the word carries this bit. Where it does not, a wrong one makes no difference.
+fn carries(run: &Run, bit: u8) -> bool {
+    bit & run.mask != 0
 }
 
-/// The same for a byte of the message.
-fn wrong_message(run: Run, at: usize, bit: u8, carries: bool) -> Run
+/// A run in which this bit of the test byte is wrong.
+fn wrong_byte(mut run: Run, bit: u8) -> Run {
+    run.byte ^= bit;
+    if carries(&run, bit) {
+        run.result = Err(LoopbackError::UnexpectedLoopbackByte { actual: run.byte });
+        run.count = 17;
+    }
+    run
+}
+
+/// A run in which this bit of a byte of the message is wrong.
+fn wrong_message(mut run: Run, at: usize, bit: u8) -> Run
     requires { at < 16 }
 {
-    let mut message = run.message;
-    message[at] ^= bit;
-    if !carries {
-        return Run { message, ..run };
+    run.message[at] ^= bit;
+    if carries(&run, bit) {
+        run.result = Err(LoopbackError::UnexpectedLoopbackMsg);
+        run.place = run.message;
     }
-    Run {
-        message,
-        result: Err(LoopbackError::UnexpectedLoopbackMsg),
-        place: message,
-        ..run
-    }
+    run
 }
 
 /// A good run, and all runs with one wrong bit.
-fn with_all_wrong_bits(rt: &impl Abort, run: Run, mask: u8) -> Result<(), Fail> {
+fn with_all_wrong_bits(rt: &impl Abort, run: Run) -> Result<(), Fail> {
     test(rt, &run)?;
     for bit in BITS {
-        let carries = bit & mask != 0;
-        test(rt, &wrong_byte(run, bit, carries))?;
+        test(rt, &wrong_byte(run, bit))?;
         // each place of the message is wrong in a run of its own
         for at in 0..16 {
-            test(rt, &wrong_message(run, at, bit, carries))?;
+            test(rt, &wrong_message(run, at, bit))?;
         }
     }
     Ok(())
@@ -159,8 +147,8 @@ fn with_all_wrong_bits(rt: &impl Abort, run: Run, mask: u8) -> Result<(), Fail> 
 fn every_bit_of_every_word(rt: HostRuntime) -> Result<(), Fail> {
     for (length, mask) in WORDS {
         for fifos in [true, false] {
-            with_all_wrong_bits(&rt, good(length, fifos, mask, 0x00), mask)?;
-            with_all_wrong_bits(&rt, good(length, fifos, mask, !mask), mask)?;
+            with_all_wrong_bits(&rt, good(length, mask, fifos, 0x00))?;
+            with_all_wrong_bits(&rt, good(length, mask, fifos, !mask))?;
         }
     }
     Ok(())
