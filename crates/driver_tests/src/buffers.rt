@@ -20,37 +20,52 @@ const NO_LEVEL: Config = Config {
     ..Config::DEFAULT
 };
 
-/// An `init` or none, what its reads give, and whether FIFOs are used then.
-type SetUp = (Option<Config>, &'static [u8], bool);
+/// How a driver is set up.
+#[derive(Clone, Copy)]
+struct SetUp {
+    /// An `init` or none, and what its reads give.
+    init: Option<Config>,
+    reads: &'static [u8],
+    /// Whether FIFOs are used then.
+    fifos: bool,
+}
 
 /// Both bits 6 and 7 of the interrupt status show FIFOs.
 const SET_UPS: [SetUp; 5] = [
-    (None, &[], true),
-    (
-        Some(Config::DEFAULT),
-        &[0x00, 0x42, 0x73, 0xC1, 0x60, 0x60, 0x60, 0xC1, 0xB0],
-        true,
-    ),
-    (
-        Some(Config::DEFAULT),
-        &[0x00, 0x42, 0x73, 0x01, 0x60, 0x60, 0x60, 0x01, 0xB0],
-        false,
-    ),
-    (
-        Some(Config::DEFAULT),
-        &[0x00, 0x42, 0x73, 0x81, 0x60, 0x60, 0x60, 0x81, 0xB0],
-        false,
-    ),
-    (
-        Some(NO_LEVEL),
-        &[0x00, 0x42, 0x73, 0x60, 0x60, 0x60, 0xC1, 0xB0],
-        false,
-    ),
+    SetUp {
+        init: None,
+        reads: &[],
+        fifos: true,
+    },
+    SetUp {
+        init: Some(Config::DEFAULT),
+        reads: &[0x00, 0x42, 0x73, 0xC1, 0x60, 0x60, 0x60, 0xC1, 0xB0],
+        fifos: true,
+    },
+    SetUp {
+        init: Some(Config::DEFAULT),
+        reads: &[0x00, 0x42, 0x73, 0x01, 0x60, 0x60, 0x60, 0x01, 0xB0],
+        fifos: false,
+    },
+    SetUp {
+        init: Some(Config::DEFAULT),
+        reads: &[0x00, 0x42, 0x73, 0x81, 0x60, 0x60, 0x60, 0x81, 0xB0],
+        fifos: false,
+    },
+    SetUp {
+        init: Some(NO_LEVEL),
+        reads: &[0x00, 0x42, 0x73, 0x60, 0x60, 0x60, 0xC1, 0xB0],
+        fifos: false,
+    },
 ];
 
-/// How many bytes there are to send; how many are taken, and in how many accesses, with FIFOs and
-/// without.
-type ToSend = (usize, (usize, u64), (usize, u64));
+/// How many bytes are moved, and in how many accesses.
+type Moved = (usize, u64);
+
+/// How many bytes there are to send, and what is moved with FIFOs, and without.
+// A row is a line of a table here, and no plainer as nine lines of a struct. It is taken apart by
+// names where it is used.
+type ToSend = (usize, Moved, Moved);
 
 const SENDS: [ToSend; 6] = [
     (0, (0, 0), (0, 0)),
@@ -74,7 +89,9 @@ const EXACT_SENDS: [ToSend; 6] = [
 
 /// How many places there are, how many characters wait, how many places are filled, and in how many
 /// accesses: two for each, and one that finds none where places are left.
-const RECEIVES: [(usize, usize, usize, u64); 15] = [
+type ToReceive = (usize, usize, usize, u64);
+
+const RECEIVES: [ToReceive; 15] = [
     (0, 0, 0, 0),
     (0, 5, 0, 0),
     (1, 0, 0, 1),
@@ -94,9 +111,8 @@ const RECEIVES: [(usize, usize, usize, u64); 15] = [
 
 /// A driver that was set up so.
 fn set_up<'a>(how: &SetUp) -> Device<'a> {
-    let (config, reads, _) = *how;
-    let mut device = over(reads);
-    if let Some(config) = config {
+    let mut device = over(how.reads);
+    if let Some(config) = how.init {
         let _ = perform(&mut device, Call::Init(config, 0));
     }
     device
@@ -121,107 +137,104 @@ fn held(n: usize) -> [u8; ROOM] {
 
 /// Whether the line status and the data are read in turn.
 fn in_turn(log: &[Access]) -> bool {
-    let mut offset = 5;
-    for access in log {
-        match access.kind {
-            Kind::Read if access.offset == offset => {}
-            _ => return false,
-        }
-        offset = if offset == 5 { 0 } else { 5 };
-    }
-    true
+    log.iter().enumerate().all(|(i, access)| {
+        let offset = if i % 2 == 0 { 5 } else { 0 };
+        access.kind == Kind::Read && access.offset == offset
+    })
 }
 
-/// Whether the line status is read before every so many bytes, and the bytes from 1 on are written.
-fn in_bursts(log: &[Access], burst: usize) -> bool {
-    let mut byte = 0u8;
-    let mut room = 0;
-    for access in log {
-        match (access.kind, access.offset) {
-            (Kind::Read, 5) if room == 0 => room = burst,
-            (Kind::Write, 0) if room > 0 => {
-                room -= 1;
-                byte = byte.wrapping_add(1);
-                if access.value != byte {
-                    return false;
-                }
-            }
-            _ => return false,
-        }
-    }
-    true
+/// Whether the line status is read before every byte, or with FIFOs before every sixteenth, and the
+/// bytes from 1 on are written.
+fn in_bursts(log: &[Access], fifos: bool) -> bool {
+    let each = if fifos { 17 } else { 2 };
+    let in_order = log.iter().enumerate().all(|(i, access)| {
+        let must = if i % each == 0 {
+            (Kind::Read, 5)
+        } else {
+            (Kind::Write, 0)
+        };
+        (access.kind, access.offset) == must
+    });
+    let written = log.iter().filter(|access| access.kind == Kind::Write);
+    let mut numbered = written.zip(1..=u8::MAX);
+    in_order && numbered.all(|(access, byte)| access.value == byte)
+}
+
+/// Sends so many bytes, of which so many must be taken.
+fn sends(rt: &impl Abort, how: &SetUp, row: &ToSend) -> Result<(), Fail> {
+    let (bytes, _, _) = *row;
+    let mut device = set_up(how);
+    replace(&mut device, &[0x60]);
+    let count = device.send_bytes(&NUMBERED[0..bytes.min(ROOM)]);
+    look_sent(rt, &device, how, count, row)
+}
+
+/// Sends so many bytes exactly, without a fruitless poll.
+fn sends_all(rt: &impl Abort, how: &SetUp, row: &ToSend) -> Result<(), Fail> {
+    let (bytes, _, _) = *row;
+    let mut device = set_up(how);
+    replace(&mut device, &[0x60; ROOM]);
+    let done = device.send_bytes_exact(&NUMBERED[0..bytes.min(ROOM)], 0);
+    assert!(rt; done.result.is_ok() && done.fruitless == 0);
+    look_sent(rt, &device, how, done.moved, row)
 }
 
 /// Looks at a driver after a send.
-fn look(
+fn look_sent(
     rt: &impl Abort,
     device: &Device<'_>,
     how: &SetUp,
     sent: usize,
     row: &ToSend,
 ) -> Result<(), Fail> {
-    let (burst, must) = if how.2 { (16, row.1) } else { (1, row.2) };
+    let (_, with_fifos, without) = *row;
+    let must = if how.fifos { with_fifos } else { without };
     let log = device.backend().log();
-    let right = in_bursts(log.recorded(), burst) && device.fifo_enabled() == how.2;
+    let right = in_bursts(log.recorded(), how.fifos) && device.fifo_enabled() == how.fifos;
     assert_eq!(rt; (right, (sent, log.count())), (true, must));
     Ok(())
 }
 
-/// Sends so many bytes, of which so many must be taken.
-fn sends(rt: &impl Abort, how: &SetUp, row: &ToSend) -> Result<(), Fail> {
-    let mut device = set_up(how);
-    replace(&mut device, &[0x60]);
-    let count = device.send_bytes(&NUMBERED[0..row.0.min(ROOM)]);
-    look(rt, &device, how, count, row)
-}
-
-/// Sends so many bytes exactly, without a fruitless poll.
-fn sends_all(rt: &impl Abort, how: &SetUp, row: &ToSend) -> Result<(), Fail> {
-    let mut device = set_up(how);
-    replace(&mut device, &[0x60; ROOM]);
-    let moved = device.send_bytes_exact(&NUMBERED[0..row.0.min(ROOM)], 0);
-    assert!(rt; moved.result.is_ok() && moved.fruitless == 0);
-    look(rt, &device, how, moved.moved, row)
-}
-
 /// Receives into so many places where so many characters wait; so many places must be filled.
-fn receives(rt: &impl Abort, how: &SetUp, row: &(usize, usize, usize, u64)) -> Result<(), Fail> {
-    let (places, n, filled, accesses) = *row;
+fn receives(rt: &impl Abort, how: &SetUp, row: &ToReceive) -> Result<(), Fail> {
+    let (places, n, _, _) = *row;
     let reads = waiting(n);
     let mut device = set_up(how);
     replace(&mut device, &reads);
     let mut buffer = [UNTOUCHED; ROOM];
     let count = device.receive_bytes(&mut buffer[0..places.min(ROOM)]);
-    let log = device.backend().log();
-    assert_eq!(rt;
-        (count, buffer, log.count(), in_turn(log.recorded())),
-        (filled, held(filled), accesses, true)
-    );
-    Ok(())
+    look_received(rt, &device, &buffer, count, row)
 }
 
 /// The same by an exact receive without a budget, which is refused where a place is left.
-fn receives_all(
-    rt: &impl Abort,
-    how: &SetUp,
-    row: &(usize, usize, usize, u64),
-) -> Result<(), Fail> {
-    let (places, n, filled, accesses) = *row;
+fn receives_all(rt: &impl Abort, how: &SetUp, row: &ToReceive) -> Result<(), Fail> {
+    let (places, n, filled, _) = *row;
     let reads = waiting(n);
     let mut device = set_up(how);
     replace(&mut device, &reads);
     let mut buffer = [UNTOUCHED; ROOM];
-    let moved = device.receive_bytes_exact(&mut buffer[0..places.min(ROOM)], 0);
-    let log = device.backend().log();
-    let refused = (moved.result.is_err(), moved.fruitless);
+    let done = device.receive_bytes_exact(&mut buffer[0..places.min(ROOM)], 0);
     let short = filled < places;
-    let done = (moved.moved, buffer, log.count(), in_turn(log.recorded()));
     assert_eq!(rt;
-        (refused, done),
-        (
-            (short, u32::from(short)),
-            (filled, held(filled), accesses, true),
-        )
+        (done.result.is_err(), done.fruitless),
+        (short, u32::from(short))
+    );
+    look_received(rt, &device, &buffer, done.moved, row)
+}
+
+/// Looks at a driver and a buffer after a receive.
+fn look_received(
+    rt: &impl Abort,
+    device: &Device<'_>,
+    buffer: &[u8; ROOM],
+    count: usize,
+    row: &ToReceive,
+) -> Result<(), Fail> {
+    let (_, _, filled, accesses) = *row;
+    let log = device.backend().log();
+    assert_eq!(rt;
+        (count, *buffer, log.count(), in_turn(log.recorded())),
+        (filled, held(filled), accesses, true)
     );
     Ok(())
 }
