@@ -213,8 +213,8 @@ fn modem_lines(rt: HostRuntime) -> Result<(), Fail> {
     let with = BenchOptions {
         fifos: false,
         scratch: false,
-        pace: 1,
         lines,
+        ..options(1)
     };
     let mut b = bench(rt.alloc(), with, &[], 0)?;
     run(
@@ -265,8 +265,7 @@ fn without_fifos_and_scratch(rt: HostRuntime) -> Result<(), Fail> {
     let with = BenchOptions {
         fifos: false,
         scratch: false,
-        pace: 1,
-        lines: quiet(),
+        ..options(1)
     };
     let mut b = bench(rt.alloc(), with, &[], 0)?;
     run(
