@@ -239,6 +239,8 @@ fn look_received(
     Ok(())
 }
 
+// Each test has its loops: the borrow checker does not cover a function that calls a closure with a
+// set-up, which holds a reference.
 #[test]
 fn to_send(rt: HostRuntime) -> Result<(), Fail> {
     for how in &SET_UPS {

@@ -57,6 +57,7 @@ pub enum Look {
 }
 
 /// What a call answered. A second number is the fruitless polls, a third the bytes moved.
+// With the driver's `Waited` and `Transferred` in it, an answer in a table would take more lines.
 #[derive(Clone, Copy, Debug, PartialEq, Eq)]
 pub enum Answer {
     Init(Result<(), InitError>, u32),
