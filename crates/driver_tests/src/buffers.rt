@@ -63,8 +63,8 @@ const SET_UPS: [SetUp; 5] = [
 type Moved = (usize, u64);
 
 /// How many bytes there are to send, and what is moved with FIFOs, and without.
-// A row is a line of a table here, and no plainer as nine lines of a struct. It is taken apart by
-// names where it is used.
+// A row is one line of a table; as a struct with its fields' names it would be eleven. It is taken
+// apart by names where it is used.
 type ToSend = (usize, Moved, Moved);
 
 const SENDS: [ToSend; 6] = [
@@ -89,6 +89,7 @@ const EXACT_SENDS: [ToSend; 6] = [
 
 /// How many places there are, how many characters wait, how many places are filled, and in how many
 /// accesses: two for each, and one that finds none where places are left.
+// One line a row, and taken apart by names, as to send.
 type ToReceive = (usize, usize, usize, u64);
 
 const RECEIVES: [ToReceive; 15] = [
