@@ -1,4 +1,4 @@
--- The powers of two are the numbers with one bit set.
+-- The powers of two are the numbers with one bit set: the library has the words, and no lemma that joins them.
 use Rattle.std.proofs.Common.{◌≡◌, ℕ, zero, suc, ◌*◌, ◌/◌, ◌%◌, ◌^◌, ◌<◌, sym, ap, ◌∙◌, ⊎_elim, add-zero, one-mul, pow-suc, arith, pow_pos}
 use Rattle.std.proofs.lemmas.Bool.{cases_lt}
 use lib.Count.{ones, ones_step, ones_cat}

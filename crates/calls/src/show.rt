@@ -55,6 +55,7 @@ impl fmt::Display for Setup<'_> {
 }
 
 /// Accesses in their order, `-` for none.
+// The letters of a kind belong to this text: the backends print none.
 #[derive(Drop)]
 pub struct Accesses<'a>(pub &'a [Access]);
 

@@ -40,6 +40,9 @@ impl<B: Backend> Uart16550<B> {
         }
     }
 
+    // That what is kept stays is a clause of its own, here and in the steps that only access: no
+    // definition of a run of accesses speaks of it.
+
     /// Whether a device is there: its scratch register keeps 0x42 and then 0x73. The byte that
     /// stood there is written back.
     pub fn check_present(&mut self) -> bool

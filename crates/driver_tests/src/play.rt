@@ -136,6 +136,7 @@ impl fmt::Display for Accesses<'_> {
 }
 
 /// Makes a call.
+// A match and no closures: a call is a value of a table.
 pub fn perform(device: &mut Device<'_>, call: Call) -> Answer {
     match call {
         Call::Init(config, budget) => Answer::from(device.init(config, budget)),

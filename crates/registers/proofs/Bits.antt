@@ -1,4 +1,4 @@
--- What `&`, `|` and `^` do to a single bit.
+-- What `&`, `|` and `^` do to a single bit, in the word `bit`, by the library's lemmas.
 use Rattle.std.proofs.Common.{◌≡◌, ℕ, ◌+◌, ◌/◌, ◌%◌, ◌^◌, ◌≤◌, min, max, cond, eqb, ap, ◌∙◌, arith}
 use lib.Bits.{bit_and, bit_or, bit_xor}
 use Rattle.std.proofs.lemmas.Nat.{shr-shr}

@@ -75,6 +75,7 @@ impl InterruptType {
     }
 }
 
+// The Rust asks the byte too.
 /// The interrupt that the byte shows, if one is pending.
 pub fn interrupt_type(isr: u8) -> Option<InterruptType>
     ensures { Decoded isr result }
