@@ -1,51 +1,31 @@
 -- Attempts to send, one after the other.
-use Rattle.std.proofs.Common.{◌≡◌, ℕ, zero, suc, ◌+◌, ◌<◌, ◌≤◌, Bool, true, false, cond, eqb, List, [], ◌∷◌, ◌++◌, length, take, drop, sym, refl, ap, ◌∙◌, subst, append_assoc, zero-add, arith, length-append, length-drop}
-use Rattle.std.proofs.lemmas.List.{drop-drop}
+use Rattle.std.proofs.Common.{◌≡◌, ℕ, zero, suc, ◌+◌, ◌<◌, ◌≤◌, cond, List, [], ◌∷◌, ◌++◌, length, take, drop, sym, refl, ap, ◌∙◌, subst, append_assoc, arith, length-append, length-drop}
+use Rattle.std.proofs.lemmas.Grind.{flat_map-append}
+use Rattle.std.proofs.lemmas.List.{drop-drop, map-append}
+use Rattle.std.proofs.lemmas.List.Sums.{sum_by-append}
 use Rattle.std.proofs.lemmas.Bool.{ne_eqb}
 use Rattle.backends.specs.Device.{Device}
 use Rattle.driver.specs.declared.uart.Uart16550.{Uart16550}
 use Rattle.driver.specs.Kept.{Kept, kept}
 use Rattle.driver.specs.Traces.{noting}
-use Rattle.driver.specs.Sends.{Attempt, attempts, asks, writes_of, taken, line_statuses, modem_status, modem_statuses, line_status, refusals, Attempted, wrote, refused, Attempts, Made, Sent}
+use Rattle.driver.specs.Sends.{Attempt, attempts, taken, line_statuses, modem_statuses, refusals, Attempted, wrote, refused, Attempts, Made, Sent}
 use Rattle.driver.proofs.Runs.{runs_append}
 use Rattle.driver.proofs.Tries.{noting_append}
 
--- what is done by attempts, and then by others
-pub attempts_append : (xs ys : List Attempt) → attempts (xs ++ ys) ≡ attempts xs ++ attempts ys
-attempts_append [] ys = refl
-attempts_append (a ∷ xs) ys = ap (λ l. asks a.question ++ writes_of a.bytes ++ l) (attempts_append xs ys)
-    ∙ sym (append_assoc (asks a.question ++ writes_of a.bytes) (attempts xs) (attempts ys))
-
-pub taken_append : (xs ys : List Attempt) → taken (xs ++ ys) ≡ taken xs ++ taken ys
-taken_append [] ys = refl
-taken_append (a ∷ xs) ys = ap (λ l. a.bytes ++ l) (taken_append xs ys) ∙ sym (append_assoc a.bytes (taken xs) (taken ys))
-
-line_append : (xs ys : List Attempt) → line_statuses (xs ++ ys) ≡ line_statuses xs ++ line_statuses ys
-line_append [] ys = refl
-line_append (a ∷ xs) ys = ap (λ l. line_status a.question ∷ l) (line_append xs ys)
-
-modem_append : (xs ys : List Attempt) → modem_statuses (xs ++ ys) ≡ modem_statuses xs ++ modem_statuses ys
-modem_append [] ys = refl
-modem_append (a ∷ xs) ys = ap (λ l. modem_status a.question ++ l) (modem_append xs ys) ∙ sym (append_assoc (modem_status a.question) (modem_statuses xs) (modem_statuses ys))
-
-more_or : (b : Bool) (m n : ℕ) → cond b (m + n + 1) (m + n) ≡ cond b (m + 1) m + n
-more_or true m n = omega arith
-more_or false m n = refl
-
+-- how many took nothing, of attempts and then others
 pub refusals_append : (xs ys : List Attempt) → refusals (xs ++ ys) ≡ refusals xs + refusals ys
-refusals_append [] ys = sym (zero-add (refusals ys))
-refusals_append (a ∷ xs) ys = rw (refusals_append xs ys) (more_or (eqb (length a.bytes) 0) (refusals xs) (refusals ys))
+refusals_append xs ys = sum_by-append _ xs ys
 
 pub no_attempts : {S : Type 0} {d : Device S} {u : Uart16550 S} → Made d u u []
 no_attempts = record { ran = refl; keeps = refl }
 
 pub made_append : {S : Type 0} {d : Device S} {u v w : Uart16550 S} {xs ys : List Attempt} → Made d u v xs → Made d v w ys → Made d u w (xs ++ ys)
 made_append {d = d} {u = u} {v = v} {w = w} {xs = xs} {ys = ys} p q = record {
-  ran = rw (attempts_append xs ys) (runs_append d (attempts xs) (attempts ys) u.backend v.backend w.backend p.ran q.ran);
+  ran = rw (flat_map-append _ xs ys) (runs_append d (attempts xs) (attempts ys) u.backend v.backend w.backend p.ran q.ran);
   keeps = q.keeps ∙ ap (λ k. noting k (line_statuses ys) (modem_statuses ys)) p.keeps
       ∙ noting_append (kept u) (line_statuses xs) (modem_statuses xs) (line_statuses ys) (modem_statuses ys)
-      ∙ ap (λ l. noting (kept u) l (modem_statuses xs ++ modem_statuses ys)) (sym (line_append xs ys))
-      ∙ ap (λ l. noting (kept u) (line_statuses (xs ++ ys)) l) (sym (modem_append xs ys));
+      ∙ ap (λ l. noting (kept u) l (modem_statuses xs ++ modem_statuses ys)) (sym (map-append _ xs ys))
+      ∙ ap (λ l. noting (kept u) (line_statuses (xs ++ ys)) l) (sym (flat_map-append _ xs ys));
 }
 
 -- saved bits do not change what an attempt may do
@@ -106,7 +86,7 @@ one_refusal xs e z = let r = one_refused xs e z in ap refusals r.2
 
 pub no_refusal : (xs : List Attempt) → length xs ≡ 1 → 0 < length (taken xs) → refusals xs ≡ 0
 no_refusal [] e h = absurd (omega arith)
-no_refusal (a ∷ []) e h = let f = length-append a.bytes [] in ap (λ b. cond b 1 0) (ne_eqb (length a.bytes) 0 (λ z. omega arith))
+no_refusal (a ∷ []) e h = let f = length-append a.bytes [] in ap (λ b. 0 + cond b 1 0) (ne_eqb (length a.bytes) 0 (λ z. omega arith))
 no_refusal (a ∷ (b ∷ xs)) e h = absurd (omega arith)
 
 -- one attempt more on what is left of the buffer
@@ -127,7 +107,7 @@ module _ {S : Type 0} {d : Device S} {u v w : Uart16550 S} (buffer : List ℕ) {
   one_more =
       let sound = attempts_more (kept u) (kept v) (line_statuses xs) (modem_statuses xs) buffer xs q.tried p.keeps a (subst (λ i. Attempts (kept v) (drop i buffer) q.tried) m q.sound) in
       let t : moved + count ≡ length (taken (xs ++ q.tried)) =
-      let e = ap length (taken_append xs q.tried) in let f = length-append (taken xs) (taken q.tried) in omega (arith, q.answer) in
+      let e = ap length (flat_map-append (λ x. x.bytes) xs q.tried) in let f = length-append (taken xs) (taken q.tried) in omega (arith, q.answer) in
       let one : length q.tried ≡ 1 = let e = length-drop moved buffer in omega (arith, q.one) in
       record {
         made = made_append p q.made;

@@ -1,19 +1,20 @@
 -- Filling a buffer, character by character.
 use Rattle.std.proofs.Common.{◌≡◌, ℕ, ◌+◌, ◌-◌, ◌<◌, ◌≤◌, List, [], ◌∷◌, ◌++◌, length, set, Some, None, Option, sym, ap, ◌∙◌, append_assoc, append-nil, arith}
+use Rattle.std.proofs.lemmas.Grind.{flat_map-append}
 use Rattle.std.proofs.lemmas.List.{length_push}
 use Rattle.registers.specs.declared.error.Wait.{Wait}
 use Rattle.registers.specs.Refusal.{Refusal}
 use Rattle.backends.specs.Device.{Device}
 use Rattle.driver.specs.declared.uart.Uart16550.{Uart16550}
-use Rattle.driver.specs.Receives.{Try, took, missed, got, misses, filled, Made, Fills, full, short, Received, ReceivedOne, FillsExactly, all, cut, WaitsFor, came, late}
-use Rattle.driver.proofs.Tries.{made_append, got_append, misses_append, filled_more}
+use Rattle.driver.specs.Receives.{Try, took, missed, byte_of, got, misses, filled, Made, Fills, full, short, Received, ReceivedOne, FillsExactly, all, cut, WaitsFor, came, late}
+use Rattle.driver.proofs.Tries.{made_append, misses_append, filled_more}
 
 -- a missed try adds no byte
 got_miss : (ts : List Try) (v : ℕ) → got (ts ++ (missed v ∷ [])) ≡ got ts
-got_miss ts v = got_append ts (missed v ∷ []) ∙ append-nil (got ts)
+got_miss ts v = flat_map-append byte_of ts (missed v ∷ []) ∙ append-nil (got ts)
 
 got_took : (ts : List Try) (v b : ℕ) → got (ts ++ (took v b ∷ [])) ≡ got ts ++ (b ∷ [])
-got_took ts v b = got_append ts (took v b ∷ [])
+got_took ts v b = flat_map-append byte_of ts (took v b ∷ [])
 
 -- no more characters are taken than there are places
 pub fills_within : (room : ℕ) (ts : List Try) → Fills room ts → length (got ts) ≤ room
@@ -64,14 +65,14 @@ pub exactly_more : (i n m : ℕ) (w : Wait) (ts us : List Try) (bs : List ℕ) �
 exactly_more i n m w ts us bs h e f (came vs v b p q) =
     rw (← append_assoc)
     (all (ts ++ vs) v b (let x = misses_append ts vs in omega arith)
-    (let x = ap length (got_append ts vs) in let y = ap length q in simp (got_append, q) (simp append-nil (omega arith))))
+    (let x = ap length (flat_map-append byte_of ts vs) in let y = ap length q in simp (flat_map-append byte_of, q) (simp append-nil (omega arith))))
 
 -- the wait ran out
 pub exactly_cut : (room n m : ℕ) (w : Wait) (x : Refusal) (ts us : List Try) (bs : List ℕ) → misses ts ≤ n → length (got ts) < room → m ≡ n - misses ts
     → WaitsFor m w (Some x) us bs → FillsExactly room n w (Some x) (ts ++ us)
 exactly_cut room n m w x ts us bs h e f (late vs v p q) =
     rw (← append_assoc)
-    (cut (ts ++ vs) v (let x = misses_append ts vs in omega arith) (simp (got_append, q) (simp append-nil e)))
+    (cut (ts ++ vs) v (let x = misses_append ts vs in omega arith) (simp (flat_map-append byte_of, q) (simp append-nil e)))
 
 -- what a wait got is what its tries took
 pub waited_got : (m : ℕ) (w : Wait) (x : Option Refusal) (us : List Try) (bs : List ℕ) → WaitsFor m w x us bs → got us ≡ bs
@@ -86,7 +87,7 @@ module _ (before buffer : List ℕ) (ts us : List Try) (i b : ℕ) (n : length (
   -- the place gets the byte that the wait got
   pub place_more : got us ≡ b ∷ [] → i < length before → (length (got (ts ++ us)) ≡ i + 1) × (set buffer i b ≡ filled (got (ts ++ us)) before)
   place_more e h =
-      let a = got_append ts us ∙ ap (λ g. got ts ++ g) e in (
+      let a = flat_map-append byte_of ts us ∙ ap (λ g. got ts ++ g) e in (
         ap length a ∙ length_push (got ts) b ∙ omega arith,
         rw (f, ← n) (filled_more (got ts) before b (omega arith) ∙ ap (λ g. filled g before) (sym a)),
       )
@@ -94,5 +95,5 @@ module _ (before buffer : List ℕ) (ts us : List Try) (i b : ℕ) (n : length (
   -- the place keeps what it has
   pub place_same : got us ≡ [] → (length (got (ts ++ us)) ≡ i) × (buffer ≡ filled (got (ts ++ us)) before)
   place_same e =
-      let a = got_append ts us ∙ ap (λ g. got ts ++ g) e ∙ append-nil (got ts) in
+      let a = flat_map-append byte_of ts us ∙ ap (λ g. got ts ++ g) e ∙ append-nil (got ts) in
       (ap length a ∙ n, f ∙ ap (λ g. filled g before) (sym a))

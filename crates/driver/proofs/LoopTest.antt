@@ -1,6 +1,7 @@
 -- The steps of the loopback test, put together.
 use Rattle.std.proofs.Common.{◌≡◌, ℕ, ◌+◌, ◌-◌, ◌<◌, ◌≤◌, false, List, [], ◌∷◌, ◌++◌, length, get_or, set, Some, None, Option, sym, refl, ap, ◌∙◌, subst, arith}
 use lib.Bits.{bit_or}
+use Rattle.std.proofs.lemmas.Grind.{flat_map-append}
 use Rattle.std.proofs.lemmas.List.{length_push}
 use Rattle.registers.specs.declared.error.Wait.TheVariants.{Transmitter}
 use Rattle.registers.specs.Refusal.{Refusal, refusal, during}
@@ -10,10 +11,10 @@ use Rattle.driver.specs.Kept.{Kept, kept, with_fifo, with_saved}
 use Rattle.driver.specs.Traces.{Ran, FifoSetUp, polls, noting, StayedBusy, SeenEmpty}
 use Rattle.driver.specs.Getters.{Looked}
 use Rattle.driver.specs.Receives.{filled}
-use Rattle.driver.specs.Loopback.{Part, accesses, lines_of, modems_of, wasted, back, masked, data_mask, test_message, settings, Drains, ByteTested, Echoed, Singly, next, MessageEchoed, singly, singly_cut, MessageTested, message_back, other_message, Looped, in_byte, in_message, restores, LoopTested, stayed_busy, looped, Done, InLoop, Left}
+use Rattle.driver.specs.Loopback.{Part, part_back, accesses, lines_of, modems_of, wasted, back, masked, data_mask, test_message, settings, Drains, ByteTested, Echoed, Singly, next, MessageEchoed, singly, singly_cut, MessageTested, message_back, other_message, Looped, in_byte, in_message, restores, LoopTested, stayed_busy, looped, Done, InLoop, Left}
 use Rattle.driver.proofs.Runs.{runs_append}
 use Rattle.driver.proofs.Tries.{filled_more}
-use Rattle.driver.proofs.Looping.{back_append, done_then, done_as, echoed_length, filled_whole, not_none}
+use Rattle.driver.proofs.Looping.{done_then, done_as, echoed_length, filled_whole, not_none}
 
 single : (xs : List ℕ) → length xs ≡ 1 → xs ≡ get_or xs 0 0 ∷ []
 single [] e = absurd (omega arith)
@@ -40,7 +41,7 @@ module _ {S : Type 0} {d : Device S} {u v w : Uart16550 S} (n : ℕ) {n' a b c :
       done_then (λ j o ps. Echoed j o (get_or test_message i 0 ∷ []) None ps × (◌≡◌ {A = Option Refusal} None None → one ≡ back ps)) p q e
       (λ ps qs y z.
       let t = get_or one 0 0 in
-      let r : back (ps ++ qs) ≡ back ps ++ (t ∷ []) = back_append ps qs
+      let r : back (ps ++ qs) ≡ back ps ++ (t ∷ []) = flat_map-append part_back ps qs
       ∙ ap (λ w. back ps ++ w) (single (back qs) (echoed_length _ _ _ qs z.0) ∙ ap (λ w. get_or w 0 0 ∷ []) (sym (z.1 refl))) in (
         next i None ps qs y.0 h z.0,
         ap length r ∙ length_push (back ps) t ∙ ap (λ j. j + 1) y.1,

@@ -1,7 +1,9 @@
 -- The parts of the loopback test, one after the other.
-use Rattle.std.proofs.Common.{◌≡◌, ℕ, suc, ◌+◌, ◌-◌, ◌≤◌, Bool, true, false, cond, List, [], ◌∷◌, ◌++◌, length, EachIndex, get_or, take, drop, Some, None, Option, sym, refl, ap, ◌∙◌, subst, append_assoc, append-nil, zero-add, arith, length-append}
+use Rattle.std.proofs.Common.{◌≡◌, ℕ, suc, ◌+◌, ◌-◌, ◌≤◌, Bool, true, false, cond, List, [], ◌∷◌, ◌++◌, length, EachIndex, get_or, take, drop, Some, None, Option, sym, refl, ap, ◌∙◌, subst, append-nil, arith, length-append}
 use lib.Bits.{bit_and}
+use Rattle.std.proofs.lemmas.Grind.{flat_map-append}
 use Rattle.std.proofs.lemmas.List.{drop_all, get_or-map}
+use Rattle.std.proofs.lemmas.List.Sums.{sum_by-append}
 use Rattle.registers.specs.declared.error.Wait.{Wait}
 use Rattle.registers.specs.declared.error.Wait.TheVariants.{TestByte, TestMessageSent, TestMessageReceived}
 use Rattle.registers.specs.Refusal.{Refusal, refusal, amount}
@@ -9,47 +11,11 @@ use Rattle.backends.specs.Device.{Device, Runs}
 use Rattle.driver.specs.declared.uart.Uart16550.{Uart16550}
 use Rattle.driver.specs.Kept.{Kept, kept}
 use Rattle.driver.specs.Traces.{noting}
-use Rattle.driver.specs.Receives.{WaitsFor, came, Try, took, missed, tries, statuses, got, misses, filled, FillsExactly, no_room, all as filled_all, cut as filled_cut, ReceivedExactly, Made as Tried}
+use Rattle.driver.specs.Receives.{WaitsFor, came, Try, took, missed, byte_of, tries, statuses, got, misses, filled, FillsExactly, no_room, all as filled_all, cut as filled_cut, ReceivedExactly, Made as Tried}
 use Rattle.driver.specs.Sends.{Sent, taken, Attempt, attempts, line_statuses, modem_statuses, refusals, Attempted, wrote, refused, Attempts, SendsExactly, all, cut, SentExactly, Made}
-use Rattle.driver.specs.Loopback.{Part, drained, offered, sent, heard, accesses, lines_of, modems_of, wasted, back, masked, settings, test_byte, data_mask, ByteTested, not_taken, never_back, another, the_same, Echoed, not_sent, all_sent, Done, Within}
+use Rattle.driver.specs.Loopback.{Part, drained, offered, sent, heard, part_accesses, part_lines, part_modems, part_wasted, accesses, lines_of, modems_of, wasted, back, masked, settings, test_byte, data_mask, ByteTested, not_taken, never_back, another, the_same, Echoed, not_sent, all_sent, Done, Within}
 use Rattle.driver.proofs.Runs.{runs_append}
-use Rattle.driver.proofs.Tries.{noting_append, got_append, misses_append}
-
--- what is done by parts, and then by others
-accesses_append : (ps qs : List Part) → accesses (ps ++ qs) ≡ accesses ps ++ accesses qs
-accesses_append [] qs = refl
-accesses_append (drained ts ∷ ps) qs = rw (accesses_append ps qs) (sym (append_assoc (tries ts) (accesses ps) (accesses qs)))
-accesses_append (offered a ∷ ps) qs = rw (accesses_append ps qs) (sym (append_assoc (attempts (a ∷ [])) (accesses ps) (accesses qs)))
-accesses_append (sent xs ∷ ps) qs = rw (accesses_append ps qs) (sym (append_assoc (attempts xs) (accesses ps) (accesses qs)))
-accesses_append (heard ts ∷ ps) qs = rw (accesses_append ps qs) (sym (append_assoc (tries ts) (accesses ps) (accesses qs)))
-
-lines_append : (ps qs : List Part) → lines_of (ps ++ qs) ≡ lines_of ps ++ lines_of qs
-lines_append [] qs = refl
-lines_append (drained ts ∷ ps) qs = rw (lines_append ps qs) (sym (append_assoc (statuses ts) (lines_of ps) (lines_of qs)))
-lines_append (offered a ∷ ps) qs = rw (lines_append ps qs) (sym (append_assoc (line_statuses (a ∷ [])) (lines_of ps) (lines_of qs)))
-lines_append (sent xs ∷ ps) qs = rw (lines_append ps qs) (sym (append_assoc (line_statuses xs) (lines_of ps) (lines_of qs)))
-lines_append (heard ts ∷ ps) qs = rw (lines_append ps qs) (sym (append_assoc (statuses ts) (lines_of ps) (lines_of qs)))
-
-modems_append : (ps qs : List Part) → modems_of (ps ++ qs) ≡ modems_of ps ++ modems_of qs
-modems_append [] qs = refl
-modems_append (drained ts ∷ ps) qs = modems_append ps qs
-modems_append (offered a ∷ ps) qs = rw (modems_append ps qs) (sym (append_assoc (modem_statuses (a ∷ [])) (modems_of ps) (modems_of qs)))
-modems_append (sent xs ∷ ps) qs = rw (modems_append ps qs) (sym (append_assoc (modem_statuses xs) (modems_of ps) (modems_of qs)))
-modems_append (heard ts ∷ ps) qs = modems_append ps qs
-
-pub wasted_append : (ps qs : List Part) → wasted (ps ++ qs) ≡ wasted ps + wasted qs
-wasted_append [] qs = sym (zero-add (wasted qs))
-wasted_append (drained ts ∷ ps) qs = let e = wasted_append ps qs in omega arith
-wasted_append (offered a ∷ ps) qs = wasted_append ps qs
-wasted_append (sent xs ∷ ps) qs = let e = wasted_append ps qs in omega arith
-wasted_append (heard ts ∷ ps) qs = let e = wasted_append ps qs in omega arith
-
-pub back_append : (ps qs : List Part) → back (ps ++ qs) ≡ back ps ++ back qs
-back_append [] qs = refl
-back_append (drained ts ∷ ps) qs = back_append ps qs
-back_append (offered a ∷ ps) qs = back_append ps qs
-back_append (sent xs ∷ ps) qs = back_append ps qs
-back_append (heard ts ∷ ps) qs = rw (back_append ps qs) (sym (append_assoc (got ts) (back ps) (back qs)))
+use Rattle.driver.proofs.Tries.{noting_append, misses_append}
 
 -- these parts were done
 pub record Moved {S : Type 0} (d : Device S) (old new : Uart16550 S) (ps : List Part) : Type 0 where
@@ -61,10 +27,10 @@ moved_none = record { ran = refl; keeps = refl }
 
 pub moved_append : {S : Type 0} {d : Device S} {u v w : Uart16550 S} {ps qs : List Part} → Moved d u v ps → Moved d v w qs → Moved d u w (ps ++ qs)
 moved_append {d = d} {u = u} {v = v} {w = w} {ps = ps} {qs = qs} p q = record {
-  ran = subst (λ xs. Runs d xs u.backend w.backend) (sym (accesses_append ps qs)) (runs_append d (accesses ps) (accesses qs) u.backend v.backend w.backend p.ran q.ran);
+  ran = subst (λ xs. Runs d xs u.backend w.backend) (sym (flat_map-append part_accesses ps qs)) (runs_append d (accesses ps) (accesses qs) u.backend v.backend w.backend p.ran q.ran);
   keeps = q.keeps ∙ ap (λ j. noting j (lines_of qs) (modems_of qs)) p.keeps ∙ noting_append (kept u) (lines_of ps) (modems_of ps) (lines_of qs) (modems_of qs)
-      ∙ ap (λ l. noting (kept u) l (modems_of ps ++ modems_of qs)) (sym (lines_append ps qs))
-      ∙ ap (λ l. noting (kept u) (lines_of (ps ++ qs)) l) (sym (modems_append ps qs));
+      ∙ ap (λ l. noting (kept u) l (modems_of ps ++ modems_of qs)) (sym (flat_map-append part_lines ps qs))
+      ∙ ap (λ l. noting (kept u) (lines_of (ps ++ qs)) l) (sym (flat_map-append part_modems ps qs));
 }
 
 module _ {S : Type 0} {d : Device S} {u v : Uart16550 S} where
@@ -111,7 +77,7 @@ pub done_then : {S : Type 0} {d : Device S} {u v w : Uart16550 S} {P : List Part
     → ((ps qs : List Part) → P ps → Q (settings (kept u)) (n - a - wasted ps) qs → R (ps ++ qs)) → Done d u w R a c
 done_then {u = u} {v = v} {P = P} Q {R = R} {n = n} {n' = n'} {a = a} {b = b} {c = c} p q e f =
     let i : n' - b ≡ n - a - wasted p.parts = omega (arith, p.counted) in
-    let w = wasted_append p.parts q.parts in
+    let w = sum_by-append part_wasted p.parts q.parts in
     done (moved_append (moved p) (moved q))
     (f p.parts q.parts p.holds
     (subst (λ h. Q (settings (kept u)) h q.parts) i (subst (λ j. Q j (n' - b) q.parts) (ap settings p.keeps) q.holds)))
@@ -135,7 +101,7 @@ sends_settings k buffer n w x xs (cut ys q p) = cut ys q p
 -- a buffer that was filled to its end
 fills_length : (room n : ℕ) (w : Wait) (ts : List Try) → FillsExactly room n w None ts → length (got ts) ≡ room
 fills_length room n w ts (no_room e) = sym e
-fills_length room n w ts (filled_all us v b p q) = let e = ap length (got_append us (took v b ∷ [])) in let f = length-append (got us) (b ∷ []) in omega arith
+fills_length room n w ts (filled_all us v b p q) = let e = ap length (flat_map-append byte_of us (took v b ∷ [])) in let f = length-append (got us) (b ∷ []) in omega arith
 
 pub fills_within : (room m n b c : ℕ) (w : Wait) (x : Option Refusal) (ts : List Try) → FillsExactly room m w x ts → c - b ≡ misses ts → b ≤ c → b ≤ n → m ≡ n - b → Within x c n
 fills_within room m n b c w x ts (no_room e) f g h i = omega arith
@@ -185,11 +151,11 @@ module _ {S : Type 0} {d : Device S} {u v : Uart16550 S} {bytes : List ℕ} (n :
 pub drain_more : (ts : List Try) (v b : ℕ) → misses ts ≡ 0 → (misses (ts ++ (took v b ∷ [])) ≡ 0) × (length (got (ts ++ (took v b ∷ []))) ≡ length (got ts) + 1)
 drain_more ts v b e = (
   misses_append ts (took v b ∷ []) ∙ omega arith,
-  ap length (got_append ts (took v b ∷ [])) ∙ length-append (got ts) (b ∷ []) ∙ omega arith,
+  ap length (flat_map-append byte_of ts (took v b ∷ [])) ∙ length-append (got ts) (b ∷ []) ∙ omega arith,
 )
 
 pub got_miss : (ts : List Try) (v : ℕ) → length (got (ts ++ (missed v ∷ []))) ≡ length (got ts)
-got_miss ts v = ap length (got_append ts (missed v ∷ []) ∙ append-nil (got ts))
+got_miss ts v = ap length (flat_map-append byte_of ts (missed v ∷ []) ∙ append-nil (got ts))
 
 -- The test byte
 

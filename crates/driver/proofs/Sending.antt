@@ -1,8 +1,8 @@
 -- Attempts to send, put together.
-use Rattle.std.proofs.Common.{◌≡◌, ℕ, ◌-◌, ◌<◌, ◌≤◌, min, List, [], ◌∷◌, ◌++◌, length, take, Some, None, Option, sym, refl, ap, ◌∙◌, subst, append-nil, arith, length-take}
+use Rattle.std.proofs.Common.{◌≡◌, ℕ, ◌-◌, ◌<◌, ◌≤◌, min, List, [], ◌∷◌, length, take, Some, None, Option, sym, refl, ap, ◌∙◌, subst, append-nil, arith, length-take}
 use Rattle.std.proofs.lemmas.List.{take_all, take_min}
 use Rattle.registers.specs.Refusal.{Refusal}
-use Rattle.backends.specs.Device.{Device, Runs, rd, wr}
+use Rattle.backends.specs.Device.{Device, Runs, rd}
 use Rattle.driver.specs.declared.uart.Uart16550.{Uart16550}
 use Rattle.driver.specs.Kept.{kept}
 use Rattle.driver.specs.Traces.{noting}
@@ -20,11 +20,6 @@ asked_lines {d = d} {u = u} {v = v} {w = w} t status m z p q r e f a = record {
   ran = runs_append d (rd 5 status ∷ rd 4 m ∷ []) (rd 6 z ∷ []) u.backend t w.backend (runs_append d (rd 5 status ∷ []) (rd 4 m ∷ []) u.backend v.backend t p q) r;
   keeps = f ∙ ap (λ k. noting k [] (z ∷ [])) e ∙ noting_append (kept u) (status ∷ []) [] [] (z ∷ []);
 }
-
--- one byte more was written
-pub writes_append : (bs cs : List ℕ) → writes_of (bs ++ cs) ≡ writes_of bs ++ writes_of cs
-writes_append [] cs = refl
-writes_append (b ∷ bs) cs = ap (λ l. wr 0 b ∷ l) (writes_append bs cs)
 
 module _ {S : Type 0} {d : Device S} {u w : Uart16550 S} {buffer : List ℕ} where
   -- nothing to send: no access

@@ -1,6 +1,6 @@
 -- Waits for the transmitter: one poll more.
-use Rattle.std.proofs.Common.{◌≡◌, ℕ, ◌+◌, true, false, List, [], ◌∷◌, ◌++◌, refl, ap, ◌∙◌, arith}
-use Rattle.std.proofs.lemmas.List.{length_push}
+use Rattle.std.proofs.Common.{◌≡◌, ℕ, ◌+◌, true, false, List, [], ◌∷◌, ◌++◌, ap, ◌∙◌, arith}
+use Rattle.std.proofs.lemmas.List.{length_push, map-append}
 use Rattle.registers.specs.Flags.{contains}
 use Rattle.backends.specs.Device.{Device, Runs, rd}
 use Rattle.driver.specs.declared.uart.Uart16550.{Uart16550}
@@ -8,10 +8,6 @@ use Rattle.driver.specs.Kept.{kept}
 use Rattle.driver.specs.Traces.{polls, noting, NoneShows, StayedBusy, SeenEmpty}
 use Rattle.driver.proofs.Runs.{runs_append}
 use Rattle.driver.proofs.Tries.{noting_append}
-
-pub polls_push : (vs : List ℕ) (v : ℕ) → polls (vs ++ (v ∷ [])) ≡ polls vs ++ (rd 5 v ∷ [])
-polls_push [] v = refl
-polls_push (w ∷ vs) v = ap (λ l. rd 5 w ∷ l) (polls_push vs v)
 
 pub none_push : (m : ℕ) (vs : List ℕ) (v : ℕ) → NoneShows m vs → contains v m ≡ false → NoneShows m (vs ++ (v ∷ []))
 none_push m [] v h e = (e, tt)
@@ -31,7 +27,7 @@ module _ {S : Type 0} {d : Device S} {u v w : Uart16550 S} {a b : ℕ} (z : ℕ)
     polled = h.polled ++ (z ∷ []);
     busy = none_push 0x40 h.polled z h.busy e;
     count = let p = length_push h.polled z in omega (arith, h.count);
-    ran = rw polls_push longer;
+    ran = rw (map-append (rd 5) h.polled (z ∷ [])) longer;
     keeps = noted;
   }
 

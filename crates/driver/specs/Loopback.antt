@@ -1,5 +1,5 @@
 -- The loopback test: what it does on the bus, and how it ends.
-use Rattle.std.specs.Prelude.{◌≡◌, ℕ, ◌+◌, ◌-◌, ◌^◌, ◌<◌, ◌≤◌, Bool, true, false, List, [], ◌∷◌, ◌++◌, length, map, Some, None, codes, Option, ◌≢◌, bit_and, bit_or, slice_index}
+use Rattle.std.specs.Prelude.{◌≡◌, ℕ, ◌+◌, ◌-◌, ◌^◌, ◌<◌, ◌≤◌, Bool, true, false, List, [], ◌∷◌, ◌++◌, length, map, flat_map, sum_by, Some, None, codes, Option, ◌≢◌, bit_and, bit_or, slice_index}
 use Rattle.registers.specs.declared.error.Wait.TheVariants.{Transmitter, Drain, TestByte, TestMessageSent, TestMessageReceived}
 use Rattle.registers.specs.declared.lcr.WordLength.{WordLength}
 use Rattle.registers.specs.Flags.{contains, line_errors, line_changes, transmitter_empty, loop_back}
@@ -37,45 +37,55 @@ pub data Part : Type 0 where
   sent : List Attempt → Part
   heard : List Try → Part
 
--- the accesses of the parts
+-- the accesses of a part, and of parts one after the other
+abbrev pub part_accesses : Part → List Access
+part_accesses (drained ts) = tries ts
+part_accesses (offered a) = attempts (a ∷ [])
+part_accesses (sent tried) = attempts tried
+part_accesses (heard ts) = tries ts
+
 abbrev pub accesses : List Part → List Access
-accesses [] = []
-accesses (drained ts ∷ ps) = tries ts ++ accesses ps
-accesses (offered a ∷ ps) = attempts (a ∷ []) ++ accesses ps
-accesses (sent tried ∷ ps) = attempts tried ++ accesses ps
-accesses (heard ts ∷ ps) = tries ts ++ accesses ps
+accesses ps = flat_map part_accesses ps
 
 -- the line status bytes that they read
-abbrev pub lines_of : List Part → List ℕ
-lines_of [] = []
-lines_of (drained ts ∷ ps) = statuses ts ++ lines_of ps
-lines_of (offered a ∷ ps) = line_statuses (a ∷ []) ++ lines_of ps
-lines_of (sent tried ∷ ps) = line_statuses tried ++ lines_of ps
-lines_of (heard ts ∷ ps) = statuses ts ++ lines_of ps
+abbrev pub part_lines : Part → List ℕ
+part_lines (drained ts) = statuses ts
+part_lines (offered a) = line_statuses (a ∷ [])
+part_lines (sent tried) = line_statuses tried
+part_lines (heard ts) = statuses ts
 
--- the modem status bytes
+abbrev pub lines_of : List Part → List ℕ
+lines_of ps = flat_map part_lines ps
+
+-- the modem status bytes: only sending reads that register
+abbrev pub part_modems : Part → List ℕ
+part_modems (drained ts) = []
+part_modems (offered a) = modem_statuses (a ∷ [])
+part_modems (sent tried) = modem_statuses tried
+part_modems (heard ts) = []
+
 abbrev pub modems_of : List Part → List ℕ
-modems_of [] = []
-modems_of (drained ts ∷ ps) = modems_of ps
-modems_of (offered a ∷ ps) = modem_statuses (a ∷ []) ++ modems_of ps
-modems_of (sent tried ∷ ps) = modem_statuses tried ++ modems_of ps
-modems_of (heard ts ∷ ps) = modems_of ps
+modems_of ps = flat_map part_modems ps
 
 -- their fruitless polls: each character thrown away is one, and a byte that is offered once waits for nothing
+abbrev pub part_wasted : Part → ℕ
+part_wasted (drained ts) = length (got ts)
+part_wasted (offered a) = 0
+part_wasted (sent tried) = refusals tried
+part_wasted (heard ts) = misses ts
+
 abbrev pub wasted : List Part → ℕ
-wasted [] = 0
-wasted (drained ts ∷ ps) = length (got ts) + wasted ps
-wasted (offered a ∷ ps) = wasted ps
-wasted (sent tried ∷ ps) = refusals tried + wasted ps
-wasted (heard ts ∷ ps) = misses ts + wasted ps
+wasted ps = sum_by part_wasted ps
 
 -- the bytes that came back
+abbrev pub part_back : Part → List ℕ
+part_back (drained ts) = []
+part_back (offered a) = []
+part_back (sent tried) = []
+part_back (heard ts) = got ts
+
 abbrev pub back : List Part → List ℕ
-back [] = []
-back (drained ts ∷ ps) = back ps
-back (offered a ∷ ps) = back ps
-back (sent tried ∷ ps) = back ps
-back (heard ts ∷ ps) = got ts ++ back ps
+back ps = flat_map part_back ps
 
 -- what sending goes by: the saved bits play no part
 abbrev pub settings : Kept → Kept

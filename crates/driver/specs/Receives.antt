@@ -1,5 +1,5 @@
 -- Receiving: what it does on the bus, and which characters it hands out.
-use Rattle.std.specs.Prelude.{◌≡◌, ℕ, ◌+◌, ◌<◌, ◌≤◌, true, false, cond, List, [], ◌∷◌, ◌++◌, length, drop, Some, None, Option}
+use Rattle.std.specs.Prelude.{◌≡◌, ℕ, ◌+◌, ◌<◌, ◌≤◌, Bool, true, false, cond, List, [], ◌∷◌, ◌++◌, length, map, flat_map, count_by, drop, Some, None, Option}
 use Rattle.registers.specs.declared.error.Wait.{Wait}
 use Rattle.registers.specs.Flags.{contains, data_ready}
 use Rattle.registers.specs.Offsets.{at_data, at_lsr}
@@ -21,29 +21,37 @@ Sound [] = Unit {0}
 Sound (took v b ∷ ts) = (contains v data_ready ≡ true) × Sound ts
 Sound (missed v ∷ ts) = (contains v data_ready ≡ false) × Sound ts
 
--- the accesses of these tries
+-- the accesses of a try, and of tries one after the other
+abbrev pub reads : Try → List Access
+reads (took v b) = rd at_lsr v ∷ rd at_data b ∷ []
+reads (missed v) = rd at_lsr v ∷ []
+
 abbrev pub tries : List Try → List Access
-tries [] = []
-tries (took v b ∷ ts) = rd at_lsr v ∷ (rd at_data b ∷ tries ts)
-tries (missed v ∷ ts) = rd at_lsr v ∷ tries ts
+tries ts = flat_map reads ts
 
--- the bytes of the characters that were taken
+-- the byte of the character that a try took, if it took one, and the bytes of all of them
+abbrev pub byte_of : Try → List ℕ
+byte_of (took v b) = b ∷ []
+byte_of (missed v) = []
+
 abbrev pub got : List Try → List ℕ
-got [] = []
-got (took v b ∷ ts) = b ∷ got ts
-got (missed v ∷ ts) = got ts
+got ts = flat_map byte_of ts
 
--- the line status bytes that were read
+-- the line status byte that a try read, and those of tries
+abbrev pub status_of : Try → ℕ
+status_of (took v b) = v
+status_of (missed v) = v
+
 abbrev pub statuses : List Try → List ℕ
-statuses [] = []
-statuses (took v b ∷ ts) = v ∷ statuses ts
-statuses (missed v ∷ ts) = v ∷ statuses ts
+statuses ts = map status_of ts
 
--- how many tries found nothing
+-- whether a try found nothing, and how many did
+abbrev pub is_miss : Try → Bool
+is_miss (took v b) = false
+is_miss (missed v) = true
+
 abbrev pub misses : List Try → ℕ
-misses [] = 0
-misses (took v b ∷ ts) = misses ts
-misses (missed v ∷ ts) = misses ts + 1
+misses ts = count_by is_miss ts
 
 -- a buffer whose first places were filled with these bytes
 abbrev pub filled : List ℕ → List ℕ → List ℕ

@@ -1,5 +1,5 @@
 -- Sending: what it does on the bus, and which bytes it takes.
-use Rattle.std.specs.Prelude.{◌≡◌, ℕ, ◌+◌, ◌<◌, ◌≤◌, min, Bool, true, false, cond, List, [], ◌∷◌, ◌++◌, length, take, drop, Some, None, Option, ◌==◌}
+use Rattle.std.specs.Prelude.{◌≡◌, ℕ, ◌<◌, ◌≤◌, min, Bool, true, false, cond, List, [], ◌∷◌, ◌++◌, length, map, flat_map, count_by, take, drop, Some, None, Option, ◌==◌}
 use Rattle.registers.specs.declared.error.Wait.{Wait}
 use Rattle.registers.specs.Flags.{contains, thr_empty, loop_back, clear_to_send}
 use Rattle.registers.specs.Offsets.{at_data, at_lsr, at_mcr, at_msr}
@@ -50,32 +50,26 @@ pub record Attempt : Type 0 where
 
 -- bytes written to the data register
 abbrev pub writes_of : List ℕ → List Access
-writes_of [] = []
-writes_of (b ∷ bs) = wr at_data b ∷ writes_of bs
+writes_of bytes = map (wr at_data) bytes
 
--- the accesses of these attempts
+-- the accesses of these attempts: each asks, and then writes its bytes
 abbrev pub attempts : List Attempt → List Access
-attempts [] = []
-attempts (a ∷ rest) = asks a.question ++ writes_of a.bytes ++ attempts rest
+attempts tried = flat_map (λ a. asks a.question ++ writes_of a.bytes) tried
 
 -- the bytes that they took
 abbrev pub taken : List Attempt → List ℕ
-taken [] = []
-taken (a ∷ rest) = a.bytes ++ taken rest
+taken tried = flat_map (λ a. a.bytes) tried
 
 -- the status bytes that they read
 abbrev pub line_statuses : List Attempt → List ℕ
-line_statuses [] = []
-line_statuses (a ∷ rest) = line_status a.question ∷ line_statuses rest
+line_statuses tried = map (λ a. line_status a.question) tried
 
 abbrev pub modem_statuses : List Attempt → List ℕ
-modem_statuses [] = []
-modem_statuses (a ∷ rest) = modem_status a.question ++ modem_statuses rest
+modem_statuses tried = flat_map (λ a. modem_status a.question) tried
 
 -- how many took nothing
 abbrev pub refusals : List Attempt → ℕ
-refusals [] = 0
-refusals (a ∷ rest) = cond (length a.bytes == 0) (refusals rest + 1) (refusals rest)
+refusals tried = count_by (λ a. length a.bytes == 0) tried
 
 -- how many bytes one attempt may take
 abbrev pub burst : Kept → ℕ

@@ -1,5 +1,5 @@
 -- What the driver's calls do on the bus: the lists of accesses that each may make.
-use Rattle.std.specs.Prelude.{◌≡◌, ℕ, ◌+◌, ◌/◌, ◌%◌, ◌≤◌, Bool, true, false, List, [], ◌∷◌, ◌++◌, length, Some, None, Option, ◌≢◌, bit_and, bit_or}
+use Rattle.std.specs.Prelude.{◌≡◌, ℕ, ◌+◌, ◌/◌, ◌%◌, ◌≤◌, Bool, true, false, List, [], ◌∷◌, ◌++◌, length, map, Some, None, Option, ◌≢◌, bit_and, bit_or}
 use Rattle.registers.specs.declared.config.Config.{Config}
 use Rattle.registers.specs.declared.error.Wait.TheVariants.{Transmitter}
 use Rattle.registers.specs.declared.fcr.FifoTriggerLevel.{FifoTriggerLevel}
@@ -47,8 +47,7 @@ pub data Discarded : ℕ → List Access → Type 0 where
 
 -- reads of the line status, in this order
 abbrev pub polls : List ℕ → List Access
-polls [] = []
-polls (v ∷ vs) = rd at_lsr v ∷ polls vs
+polls vs = map (rd at_lsr) vs
 
 -- a saved byte after reads whose bits under the mask are kept
 abbrev pub joined : ℕ → ℕ → List ℕ → ℕ

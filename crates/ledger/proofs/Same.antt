@@ -1,18 +1,18 @@
 -- A call that was made is the same call.
 use Rattle.std.proofs.Common.{◌≡◌, ℕ, ◌+◌, ◌≤◌, List, [], ◌∷◌, ◌++◌, length, drop, Option, ap, ◌∙◌, arith, length-append, length-drop}
+use Rattle.std.proofs.lemmas.Grind.{flat_map-append}
 use Rattle.registers.specs.declared.error.Wait.{Wait}
 use Rattle.registers.specs.Refusal.{Refusal}
 use Rattle.backends.specs.Device.{Device}
 use Rattle.driver.specs.declared.uart.Uart16550.{Uart16550}
-use Rattle.driver.specs.Receives.{Try, took, missed, got, filled, FillsExactly, no_room, all, cut}
+use Rattle.driver.specs.Receives.{Try, took, missed, byte_of, got, filled, FillsExactly, no_room, all, cut}
 use Rattle.driver.proofs.Filling.{fills_within}
-use Rattle.driver.proofs.Tries.{got_append}
 use Rattle.ledger.specs.declared.call.Call.{Call}
 use Rattle.ledger.specs.declared.call.Answer.{Answer}
 use Rattle.ledger.specs.Did.{Did, try_receive, receive, receive_exact, ready_to_receive, try_send, send, send_exact, ready_to_send, check_connected, check_present, enable, disable, ier, isr, lcr, mcr, lsr, msr, spr, dll_dlm, dump, SameCall, unchanged, received_into, filled_into}
 
 got_more : (ts us : List Try) → length (got (ts ++ us)) ≡ length (got ts) + length (got us)
-got_more ts us = ap length (got_append ts us) ∙ length-append (got ts) (got us)
+got_more ts us = ap length (flat_map-append byte_of ts us) ∙ length-append (got ts) (got us)
 
 exactly_within : (room n : ℕ) (w : Wait) (x : Option Refusal) (ts : List Try) → FillsExactly room n w x ts → length (got ts) ≤ room
 exactly_within room n w x ts (no_room e) = omega arith
