@@ -1,18 +1,14 @@
 -- Arrivals keep the account of the characters.
-use Rattle.std.proofs.Common.{◌≡◌, ℕ, ◌+◌, ◌≤◌, Bool, true, false, cond, ltb, List, [], ◌∷◌, ◌++◌, length, sym, refl, ap, ◌∙◌, subst, append_assoc, arith, length-append}
-use Rattle.std.proofs.lemmas.Bool.{ltb-true, ltb-false}
+use Rattle.std.proofs.Common.{◌≡◌, ℕ, ◌+◌, ◌≤◌, Bool, true, false, ltb, List, [], ◌∷◌, ◌++◌, length, sym, refl, ap, ◌∙◌, subst, append_assoc, arith, length-append}
+use Rattle.std.proofs.lemmas.Bool.{cond_both, ltb-true, ltb-false}
+use Rattle.std.proofs.lemmas.List.{map-append}
 use Rattle.backends.specs.declared.character.Character.{Character}
 use Rattle.backends.specs.declared.character.Counts.{Counts}
 use Rattle.backends.specs.Chip.{Receiver, Fifos, absent, off, on, is_on, capacity}
 use Rattle.backends.specs.Rules.{reach, arrive, joining, first, overrun, one_more, some_wait, next_first}
 use Rattle.ledger.specs.Law.{Within, Accounted, bytes}
-use Rattle.ledger.proofs.Order.{end_kept, end_left, front_within, bytes_append}
+use Rattle.ledger.proofs.Order.{end_kept, end_left, front_within}
 use Rattle.ledger.proofs.Shown.{Grown, grown_same, grown_more}
-
--- both ways of a choice
-pub cond_both : {A : Type 0} (P : A → Type 0) (b : Bool) (x y : A) → (b ≡ true → P x) → (b ≡ false → P y) → P (cond b x y)
-cond_both P true x y f g = f refl
-cond_both P false x y f g = g refl
 
 cap_one : (f : Fifos) → is_on f ≡ false → capacity f ≡ 1
 cap_one absent e = refl
@@ -62,7 +58,7 @@ module _ (start r : Receiver) (f : Fifos) (out : List ℕ) (a : Accounted start 
   came_more = ap (λ l. l ++ (c ∷ [])) a.came ∙ append_assoc start.arrived a.since (c ∷ [])
 
   since_more : bytes start.waiting ++ bytes (a.since ++ (c ∷ [])) ≡ (bytes start.waiting ++ bytes a.since) ++ (c.byte ∷ [])
-  since_more = ap (λ l. bytes start.waiting ++ l) (bytes_append a.since (c ∷ [])) ∙ sym (append_assoc (bytes start.waiting) (bytes a.since) (c.byte ∷ []))
+  since_more = ap (λ l. bytes start.waiting ++ l) (map-append (λ x. x.byte) a.since (c ∷ [])) ∙ sym (append_assoc (bytes start.waiting) (bytes a.since) (c.byte ∷ []))
 
   joins : ltb (length r.waiting) (capacity f) ≡ true
       → After start r f out (record { waiting = r.waiting ++ (c ∷ []); arrived = r.arrived ++ (c ∷ []); counts = joining r.waiting c r.counts; seen = r.seen })
@@ -77,7 +73,7 @@ module _ (start r : Receiver) (f : Fifos) (out : List ℕ) (a : Accounted start 
           newly = joining_lost r.waiting c r.counts ∙ a.newly;
           sum = omega (arith, a.sum);
           order = rw since_more (subst (λ xs. Within xs ((bytes start.waiting ++ bytes a.since) ++ (c.byte ∷ [])))
-              (append_assoc out (bytes r.waiting) (c.byte ∷ []) ∙ ap (λ l. out ++ l) (sym (bytes_append r.waiting (c ∷ []))))
+              (append_assoc out (bytes r.waiting) (c.byte ∷ []) ∙ ap (λ l. out ++ l) (sym (map-append (λ x. x.byte) r.waiting (c ∷ []))))
               (end_kept _ _ c.byte a.order));
         };
         grown = joining_grown r.waiting c r.counts;
@@ -127,7 +123,7 @@ module _ (start r : Receiver) (f : Fifos) (out : List ℕ) (a : Accounted start 
       }
 
   pub reached : After start r f out (reach f (c ∷ []) c r)
-  reached = cond_both (After start r f out) _ _ _ joins (λ l. cond_both (After start r f out) (is_on f) _ _ (λ _. drops) (replaces l))
+  reached = cond_both _ _ _ (After start r f out) joins (λ l. cond_both (is_on f) _ _ (After start r f out) (λ _. drops) (replaces l))
 
 -- characters arrive
 pub arrived : (start r : Receiver) (f : Fifos) (out : List ℕ) → Accounted start r out → (is_on f ≡ false → length r.waiting ≤ 1) → (cs : List Character)

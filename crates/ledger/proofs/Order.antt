@@ -1,7 +1,6 @@
 -- Lists with none or some left out.
-use Rattle.std.proofs.Common.{◌≡◌, ℕ, List, [], ◌∷◌, ◌++◌, refl, ap, subst, arith}
-use Rattle.backends.specs.declared.character.Character.{Character}
-use Rattle.ledger.specs.Law.{Within, none, kept, left, bytes}
+use Rattle.std.proofs.Common.{◌≡◌, ℕ, List, [], ◌∷◌, ◌++◌, subst, arith}
+use Rattle.ledger.specs.Law.{Within, none, kept, left}
 
 pub within_same : (xs : List ℕ) → Within xs xs
 within_same [] = none
@@ -32,7 +31,3 @@ front_within (x ∷ xs) zs e (kept {x = y} {xs = as'} {ys = bs} h) =
     let q : xs ++ zs ≡ as' = cc in
     subst (λ w. Within (x ∷ xs) (w ∷ bs)) p (kept (front_within xs zs q h))
 front_within (x ∷ xs) zs e (left h) = left (front_within (x ∷ xs) zs e h)
-
-pub bytes_append : (cs ds : List Character) → bytes (cs ++ ds) ≡ bytes cs ++ bytes ds
-bytes_append [] ds = refl
-bytes_append (c ∷ cs) ds = ap (λ l. c.byte ∷ l) (bytes_append cs ds)

@@ -1,18 +1,14 @@
 -- What accesses do to the set-up of a chip, in loop mode or not.
-use Rattle.std.proofs.Common.{◌≡◌, ℕ, Bool, true, false, cond, List, [], ◌∷◌, refl, ap, ◌∙◌, subst, lit<}
+use Rattle.std.proofs.Common.{◌≡◌, ℕ, Bool, true, false, cond, List, [], ◌∷◌, refl, ap, ◌∙◌, subst, ⊎_elim, lit<}
+use Rattle.std.proofs.lemmas.Bool.{cases_Bool}
 use Rattle.registers.specs.Flags.{contains, divisor_access, fifo_enable}
 use Rattle.backends.specs.declared.character.Character.{Character}
 use Rattle.backends.specs.Chip.{ChipState, Setup, Fifos, absent, off, on, is_on, divisor_reached, looping}
 use Rattle.backends.specs.Device.{Device}
 use Rattle.backends.specs.Rules.{KeepsRules, Moved, Takes, ShowsFifos, controlled, reset, with_lcr, with_mcr, with_dll, with_dlm, with_fifos}
 
--- both ways of a test, with the equation
-pub test : {P : Type 0} (b : Bool) → (b ≡ true → P) → (b ≡ false → P) → P
-test true f g = f refl
-test false f g = g refl
-
 moved_setup : (m n : ChipState) → Moved m n → n.setup ≡ m.setup
-moved_setup m n p = test (looping m) (λ e. ap (λ x. x.setup) (p.loop e).after) (λ e. ap (λ x. x.setup) (p.line e).after)
+moved_setup m n p = ⊎_elim (λ e. ap (λ x. x.setup) (p.loop e).after) (λ e. ap (λ x. x.setup) (p.line e).after) (cases_Bool (looping m))
 
 takes_setup : (ws : List Character) (m : ChipState) (v : ℕ) (n : ChipState) → Takes ws m v n → n.setup ≡ m.setup
 takes_setup [] m v n t = ap (λ x. x.setup) t
@@ -50,9 +46,10 @@ module _ {S : Type 0} (d : Device S) (meaning : S → ChipState) (law : KeepsRul
     pub rd_data : Set (d.reader.next s 0) σ
     rd_data =
         let r = law.reading s 0 (lit< tt) in
-        test (divisor_reached r.mid)
+        ⊎_elim
         (λ e. ap (λ x. x.setup) (r.acts.divisor_low refl e).1 ∙ mid_is r.mid r.before)
         (λ e. takes_setup r.mid.receiver.waiting r.mid _ _ (r.acts.taken refl e) ∙ mid_is r.mid r.before)
+        (cases_Bool (divisor_reached r.mid))
 
     pub rd_isr : Set (d.reader.next s 2) σ
     rd_isr = let r = law.reading s 2 (lit< tt) in ap (λ x. x.setup) (r.acts.interrupt_status refl).1 ∙ mid_is r.mid r.before

@@ -20,7 +20,7 @@ use Rattle.driver.proofs.Runs.{runs_append}
 use Rattle.ledger.specs.Law.{Start, SetUp, bytes}
 use Rattle.ledger.proofs.Order.{within_same}
 use Rattle.ledger.proofs.Setting as setting
-use Rattle.ledger.proofs.Setting.{Set, turned, test}
+use Rattle.ledger.proofs.Setting.{Set, turned}
 use Rattle.ledger.proofs.Shown.{grown_same, shows_none}
 use Rattle.ledger.proofs.Steps as steps
 use Rattle.ledger.proofs.Steps.{At}

@@ -1,5 +1,5 @@
 -- The law: no character is lost in silence. It relates the start, the present and what the calls reported.
-use Rattle.std.specs.Prelude.{◌≡◌, ℕ, ◌+◌, ◌/◌, ◌%◌, ◌<◌, Bool, true, false, List, [], ◌∷◌, ◌++◌, length, Some, None, Option, ◌≢◌, nat_lt, slice_index_or}
+use Rattle.std.specs.Prelude.{◌≡◌, ℕ, ◌+◌, ◌/◌, ◌%◌, ◌<◌, Bool, true, false, List, [], ◌∷◌, ◌++◌, length, map, Some, None, Option, ◌≢◌, nat_lt, slice_index_or}
 use Rattle.registers.specs.declared.config.Config.{Config}
 use Rattle.registers.specs.Flags.{contains, overrun_error, parity_error, framing_error, break_interrupt}
 use Rattle.registers.specs.Frame.{frame}
@@ -27,9 +27,9 @@ pub data Within : List ℕ → List ℕ → Type 0 where
   kept : {x : ℕ} {xs ys : List ℕ} → Within xs ys → Within (x ∷ xs) (x ∷ ys)
   left : {y : ℕ} {xs ys : List ℕ} → Within xs ys → Within xs (y ∷ ys)
 
+-- the bytes of characters
 abbrev pub bytes : List Character → List ℕ
-bytes [] = []
-bytes (c ∷ cs) = c.byte ∷ bytes cs
+bytes cs = map (λ c. c.byte) cs
 
 -- Characters handed out, waiting and newly lost are those that waited at the start and those that arrived since.
 -- Handed out and then waiting, they are in the order of their arrival, with none or some left out.

@@ -1,5 +1,5 @@
 -- What calls reported: the bytes handed out and the bytes taken, by a call, its buffer at the end, and its answer.
-use Rattle.std.specs.Prelude.{ℕ, List, [], ◌∷◌, ◌++◌, take, Some, None, Ok, Err, vec_items, Option}
+use Rattle.std.specs.Prelude.{ℕ, List, [], ◌∷◌, take, flat_map, Some, None, Ok, Err, vec_items, Option}
 use Rattle.ledger.specs.declared.call.Call.{Call}
 use Rattle.ledger.specs.declared.call.Call.TheVariants as call
 use Rattle.ledger.specs.declared.call.Answer.{Answer}
@@ -88,9 +88,7 @@ taken_by call.Dump a = []
 
 -- by a whole list, in the order of its calls
 abbrev pub handed : List Entry → List ℕ
-handed [] = []
-handed (e ∷ es) = handed_by e.call e.answer ++ handed es
+handed es = flat_map (λ e. handed_by e.call e.answer) es
 
 abbrev pub taken : List Entry → List ℕ
-taken [] = []
-taken (e ∷ es) = taken_by e.call e.answer ++ taken es
+taken es = flat_map (λ e. taken_by e.call e.answer) es
