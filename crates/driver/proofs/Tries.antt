@@ -2,8 +2,7 @@
 use Rattle.std.proofs.Common.{◌≡◌, ℕ, ◌+◌, ◌<◌, List, [], ◌∷◌, ◌++◌, length, set, sym, refl, ap, ◌∙◌, arith}
 use Rattle.std.proofs.lemmas.Grind.{flat_map-append}
 use Rattle.std.proofs.lemmas.List.{map-append}
-use Rattle.std.proofs.lemmas.List.Sums.{sum_by-append}
-use lib.Bits.{bit_and, bit_or}
+use Rattle.std.proofs.lemmas.List.Sums.{fold-append, sum_by-append}
 use Rattle.registers.specs.Flags.{line_errors, line_changes}
 use Rattle.backends.specs.Device.{Device}
 use Rattle.driver.specs.declared.uart.Uart16550.{Uart16550}
@@ -12,15 +11,11 @@ use Rattle.driver.specs.Traces.{joined, noting}
 use Rattle.driver.specs.Receives.{Try, took, missed, Sound, reads, status_of, tries, statuses, misses, filled, Made}
 use Rattle.driver.proofs.Runs.{runs_append}
 
--- bits saved from some reads, and then from others
-pub joined_append : (m s : ℕ) (vs ws : List ℕ) → joined m s (vs ++ ws) ≡ joined m (joined m s vs) ws
-joined_append m s [] ws = refl
-joined_append m s (v ∷ vs) ws = joined_append m (bit_or s (bit_and v m)) vs ws
-
+-- what is kept from some reads, and then from others
 pub noting_append : (k : Kept) (ls ms ls' ms' : List ℕ) → noting (noting k ls ms) ls' ms' ≡ noting k (ls ++ ls') (ms ++ ms')
 noting_append k ls ms ls' ms' =
-    ap (λ n. with_saved k n (joined line_changes (joined line_changes k.msr ms) ms')) (sym (joined_append line_errors k.lsr ls ls'))
-    ∙ ap (λ n. with_saved k (joined line_errors k.lsr (ls ++ ls')) n) (sym (joined_append line_changes k.msr ms ms'))
+    ap (λ n. with_saved k n (joined line_changes (joined line_changes k.msr ms) ms')) (sym (fold-append _ k.lsr ls ls'))
+    ∙ ap (λ n. with_saved k (joined line_errors k.lsr (ls ++ ls')) n) (sym (fold-append _ k.msr ms ms'))
 
 -- what holds of tries, holds of tries and then others
 pub sound_append : (ts us : List Try) → Sound ts → Sound us → Sound (ts ++ us)

@@ -1,5 +1,5 @@
 -- What the driver's calls do on the bus: the lists of accesses that each may make.
-use Rattle.std.specs.Prelude.{◌≡◌, ℕ, ◌+◌, ◌/◌, ◌%◌, ◌≤◌, Bool, true, false, List, [], ◌∷◌, ◌++◌, length, map, Some, None, Option, ◌≢◌, bit_and, bit_or}
+use Rattle.std.specs.Prelude.{◌≡◌, ℕ, ◌+◌, ◌/◌, ◌%◌, ◌≤◌, Bool, true, false, List, [], ◌∷◌, ◌++◌, length, map, fold, Some, None, Option, ◌≢◌, bit_and, bit_or}
 use Rattle.registers.specs.declared.config.Config.{Config}
 use Rattle.registers.specs.declared.error.Wait.TheVariants.{Transmitter}
 use Rattle.registers.specs.declared.fcr.FifoTriggerLevel.{FifoTriggerLevel}
@@ -51,8 +51,7 @@ polls vs = map (rd at_lsr) vs
 
 -- a saved byte after reads whose bits under the mask are kept
 abbrev pub joined : ℕ → ℕ → List ℕ → ℕ
-joined mask s [] = s
-joined mask s (v ∷ vs) = joined mask (bit_or s (bit_and v mask)) vs
+joined mask s vs = fold (λ saved v. bit_or saved (bit_and v mask)) s vs
 
 -- the driver after it kept the error bits of these line status bytes and the change bits of these modem status bytes
 abbrev pub noting : Kept → List ℕ → List ℕ → Kept
