@@ -1,17 +1,14 @@
 -- Waits for the transmitter: one poll more.
-use Rattle.std.proofs.Common.{◌≡◌, ℕ, ◌+◌, true, false, List, [], ◌∷◌, ◌++◌, ap, ◌∙◌, arith}
+use Rattle.std.proofs.Common.{◌≡◌, ℕ, ◌+◌, true, false, [], ◌∷◌, ◌++◌, ap, ◌∙◌, arith}
 use Rattle.std.proofs.lemmas.List.{length_push, map-append}
+use Rattle.std.proofs.lemmas.List.Elements.{All-push}
 use Rattle.registers.specs.Flags.{contains}
 use Rattle.backends.specs.Device.{Device, Runs, rd}
 use Rattle.driver.specs.declared.uart.Uart16550.{Uart16550}
 use Rattle.driver.specs.Kept.{kept}
-use Rattle.driver.specs.Traces.{polls, noting, NoneShows, StayedBusy, SeenEmpty}
+use Rattle.driver.specs.Traces.{polls, noting, StayedBusy, SeenEmpty}
 use Rattle.driver.proofs.Runs.{runs_append}
 use Rattle.driver.proofs.Tries.{noting_append}
-
-pub none_push : (m : ℕ) (vs : List ℕ) (v : ℕ) → NoneShows m vs → contains v m ≡ false → NoneShows m (vs ++ (v ∷ []))
-none_push m [] v h e = (e, tt)
-none_push m (w ∷ vs) v h e = (h.0, none_push m vs v h.1 e)
 
 module _ {S : Type 0} {d : Device S} {u v w : Uart16550 S} {a b : ℕ} (z : ℕ) (h : StayedBusy d u v a b)
     (ran : Runs d (rd 5 z ∷ []) v.backend w.backend) (note : kept w ≡ noting (kept v) (z ∷ []) []) where
@@ -25,7 +22,7 @@ module _ {S : Type 0} {d : Device S} {u v w : Uart16550 S} {a b : ℕ} (z : ℕ)
   pub still_busy : contains z 0x40 ≡ false → {n : ℕ} → n ≡ b + 1 → StayedBusy d u w a n
   still_busy e f = record {
     polled = h.polled ++ (z ∷ []);
-    busy = none_push 0x40 h.polled z h.busy e;
+    busy = All-push (λ y. contains y 0x40 ≡ false) h.polled z h.busy e;
     count = let p = length_push h.polled z in omega (arith, h.count);
     ran = rw (map-append (rd 5) h.polled (z ∷ [])) longer;
     keeps = noted;

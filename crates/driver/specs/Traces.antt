@@ -1,5 +1,5 @@
 -- What the driver's calls do on the bus: the lists of accesses that each may make.
-use Rattle.std.specs.Prelude.{◌≡◌, ℕ, ◌+◌, ◌/◌, ◌%◌, ◌≤◌, Bool, true, false, List, [], ◌∷◌, ◌++◌, length, map, fold, Some, None, Option, ◌≢◌, bit_and, bit_or}
+use Rattle.std.specs.Prelude.{◌≡◌, ℕ, ◌+◌, ◌/◌, ◌%◌, ◌≤◌, Bool, true, false, List, [], ◌∷◌, ◌++◌, length, map, fold, All, Some, None, Option, ◌≢◌, bit_and, bit_or}
 use Rattle.registers.specs.declared.config.Config.{Config}
 use Rattle.registers.specs.declared.error.Wait.TheVariants.{Transmitter}
 use Rattle.registers.specs.declared.fcr.FifoTriggerLevel.{FifoTriggerLevel}
@@ -59,8 +59,7 @@ noting k ls ms = with_saved k (joined line_errors k.lsr ls) (joined line_changes
 
 -- none of the bytes shows the mask
 abbrev pub NoneShows : ℕ → List ℕ → Type 0
-NoneShows m [] = Unit {0}
-NoneShows m (v ∷ vs) = (contains v m ≡ false) × NoneShows m vs
+NoneShows m vs = All (λ v. contains v m ≡ false) vs
 
 -- a wait for the transmitter: polls that did not show it empty, which the count of fruitless polls grew by
 pub record StayedBusy {S : Type 0} (d : Device S) (old new : Uart16550 S) (spent total : ℕ) : Type 0 where
