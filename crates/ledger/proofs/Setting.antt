@@ -5,7 +5,7 @@ use Rattle.registers.specs.Flags.{contains, divisor_access, fifo_enable}
 use Rattle.backends.specs.declared.character.Character.{Character}
 use Rattle.backends.specs.Chip.{ChipState, Setup, Fifos, absent, off, on, is_on, divisor_reached, looping}
 use Rattle.backends.specs.Device.{Device}
-use Rattle.backends.specs.Rules.{KeepsRules, Moved, Takes, ShowsFifos, controlled, reset, with_lcr, with_mcr, with_dll, with_dlm, with_fifos}
+use Rattle.backends.specs.Rules.{KeepsRules, Moved, Takes, ShowsFifos, controlled, with_lcr, with_mcr, with_dll, with_dlm, with_fifos}
 
 moved_setup : (m n : ChipState) → Moved m n → n.setup ≡ m.setup
 moved_setup m n p = ⊎_elim (λ e. ap (λ x. x.setup) (p.loop e).after) (λ e. ap (λ x. x.setup) (p.line e).after) (cases_Bool (looping m))
@@ -20,14 +20,10 @@ turned absent v = absent
 turned off v = cond (contains v fifo_enable) on off
 turned on v = cond (contains v fifo_enable) on off
 
-cond_setup : (b : Bool) (x y : ChipState) (s : Setup) (f g : Fifos) → x.setup ≡ with_fifos s f → y.setup ≡ with_fifos s g → (cond b x y).setup ≡ with_fifos s (cond b f g)
-cond_setup true x y s f g p q = p
-cond_setup false x y s f g p q = q
-
 controlled_setup : (f : Fifos) (v : ℕ) (m : ChipState) → m.setup.fifos ≡ f → (controlled f v m).setup ≡ with_fifos m.setup (turned f v)
 controlled_setup absent v m e = ap (λ x. with_fifos m.setup x) e
-controlled_setup off v m e = cond_setup (contains v fifo_enable) _ m m.setup on off refl (ap (λ x. with_fifos m.setup x) e)
-controlled_setup on v m e = cond_setup (contains v fifo_enable) (reset v m) _ m.setup on off (ap (λ x. with_fifos m.setup x) e) refl
+controlled_setup off v m e = ⊎_elim (λ h. rw h refl) (λ h. rw h (ap (λ x. with_fifos m.setup x) e)) (cases_Bool (contains v fifo_enable))
+controlled_setup on v m e = ⊎_elim (λ h. rw h (ap (λ x. with_fifos m.setup x) e)) (λ h. rw h refl) (cases_Bool (contains v fifo_enable))
 
 module _ {S : Type 0} (d : Device S) (meaning : S → ChipState) (law : KeepsRules d meaning) where
   abbrev pub Set : S → Setup → Type 0
