@@ -8,7 +8,7 @@ use Rattle.backends.specs.Device.{Device}
 use Rattle.driver.specs.declared.uart.Uart16550.{Uart16550}
 use Rattle.driver.specs.Kept.{Kept, kept, with_saved}
 use Rattle.driver.specs.Traces.{joined, noting}
-use Rattle.driver.specs.Receives.{Try, took, missed, Sound, reads, status_of, tries, statuses, misses, filled, Made}
+use Rattle.driver.specs.Receives.{Try, took, missed, Sound, accesses_of, status_of, tries, statuses, misses, filled, Made}
 use Rattle.driver.proofs.Runs.{runs_append}
 
 -- what is kept from some reads, and then from others
@@ -34,7 +34,7 @@ no_tries = record { sound = tt; ran = refl; keeps = refl }
 pub made_append : {S : Type 0} {d : Device S} {u v w : Uart16550 S} {ts us : List Try} → Made d u v ts → Made d v w us → Made d u w (ts ++ us)
 made_append {d = d} {u = u} {v = v} {w = w} {ts = ts} {us = us} p q = record {
   sound = sound_append ts us p.sound q.sound;
-  ran = rw (flat_map-append reads ts us) (runs_append d (tries ts) (tries us) u.backend v.backend w.backend p.ran q.ran);
+  ran = rw (flat_map-append accesses_of ts us) (runs_append d (tries ts) (tries us) u.backend v.backend w.backend p.ran q.ran);
   keeps = q.keeps ∙ ap (λ k. noting k (statuses us) []) p.keeps ∙ noting_append (kept u) (statuses ts) [] (statuses us) []
       ∙ ap (λ vs. noting (kept u) vs []) (sym (map-append status_of ts us));
 }

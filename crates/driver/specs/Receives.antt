@@ -22,12 +22,12 @@ Sound (took v b ∷ ts) = (contains v data_ready ≡ true) × Sound ts
 Sound (missed v ∷ ts) = (contains v data_ready ≡ false) × Sound ts
 
 -- the accesses of a try, and of tries one after the other
-abbrev pub reads : Try → List Access
-reads (took v b) = rd at_lsr v ∷ rd at_data b ∷ []
-reads (missed v) = rd at_lsr v ∷ []
+abbrev pub accesses_of : Try → List Access
+accesses_of (took v b) = rd at_lsr v ∷ rd at_data b ∷ []
+accesses_of (missed v) = rd at_lsr v ∷ []
 
 abbrev pub tries : List Try → List Access
-tries ts = flat_map reads ts
+tries ts = flat_map accesses_of ts
 
 -- the byte of the character that a try took, if it took one, and the bytes of all of them
 abbrev pub byte_of : Try → List ℕ
