@@ -16,7 +16,8 @@ pub fn w(offset: u8, value: u8) -> Access {
     Access::write(offset, value)
 }
 
-/// Makes the accesses of a table, in their order.
+/// Makes the accesses of a table, in their order: which kind a row is makes a match, since rows are
+/// values.
 pub fn run<B: Backend>(rt: &impl Abort, chip: &mut B, table: &[Access]) -> Result<(), Fail> {
     for row in table {
         match row.kind {
@@ -36,10 +37,9 @@ pub fn plain(byte: u8, gap: u8) -> TapeEntry {
 pub fn marked(byte: u8, parity: bool, framing: bool, gap: u8) -> TapeEntry {
     TapeEntry {
         character: Character {
-            byte,
             parity,
             framing,
-            broken: false,
+            ..Character::unmarked(byte)
         },
         gap,
     }

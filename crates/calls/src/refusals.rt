@@ -11,6 +11,7 @@ use registers::error::{
 use std::fmt;
 
 /// An error that a call refuses with.
+// Its number is printed, as the form of an answer has it; nothing in the program goes by a number.
 pub trait Refused {
     ghost refusal: { Self → Refusal };
 

@@ -168,6 +168,8 @@ const WAITS: [Row; 10] = [
     },
 ];
 
+// Which call waits is a value of a table, here and in `answer`.
+
 /// The call with a budget.
 fn call(waiter: Waiter, budget: u16) -> Call {
     match waiter {
@@ -181,8 +183,8 @@ fn call(waiter: Waiter, budget: u16) -> Call {
 /// The answer of a call that ends so.
 fn answer(waiter: Waiter, ended: Result<(), BudgetError>, fruitless: u32, moved: usize) -> Answer {
     match waiter {
-        Waiter::Init => Answer::Init(ended.map_err(InitError::from), fruitless),
-        Waiter::Loopback => Answer::Loopback(ended.map_err(LoopbackError::from), fruitless),
+        Waiter::Init => Answer::Init(ended.map_err(InitError::BudgetUsedUp), fruitless),
+        Waiter::Loopback => Answer::Loopback(ended.map_err(LoopbackError::BudgetUsedUp), fruitless),
         Waiter::Receive | Waiter::Send => Answer::Exact(ended, fruitless, moved),
     }
 }

@@ -3,6 +3,7 @@
 use crate::play::*;
 use backends::{Access, Kind};
 use registers::config::Config;
+use registers::offsets;
 use std::process::Abort;
 use std::test::*;
 
@@ -139,7 +140,11 @@ fn held(n: usize) -> [u8; ROOM] {
 /// Whether the line status and the data are read in turn.
 fn in_turn(log: &[Access]) -> bool {
     log.iter().enumerate().all(|(i, access)| {
-        let offset = if i % 2 == 0 { 5 } else { 0 };
+        let offset = if i % 2 == 0 {
+            offsets::LSR
+        } else {
+            offsets::DATA
+        };
         access.kind == Kind::Read && access.offset == offset
     })
 }
@@ -150,9 +155,9 @@ fn in_bursts(log: &[Access], fifos: bool) -> bool {
     let each = if fifos { 17 } else { 2 };
     let in_order = log.iter().enumerate().all(|(i, access)| {
         let must = if i % each == 0 {
-            (Kind::Read, 5)
+            (Kind::Read, offsets::LSR)
         } else {
-            (Kind::Write, 0)
+            (Kind::Write, offsets::DATA)
         };
         (access.kind, access.offset) == must
     });

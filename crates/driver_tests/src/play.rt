@@ -117,6 +117,7 @@ pub fn replace<'a>(device: &mut Device<'a>, reads: &'a [u8]) {
 }
 
 /// Accesses as in `Step`, with a blank before each.
+// The letters of a kind belong to this text: the backends print none.
 #[derive(Drop)]
 struct Accesses<'a>(&'a [Access]);
 
@@ -136,7 +137,7 @@ impl fmt::Display for Accesses<'_> {
 }
 
 /// Makes a call.
-// A match and no closures: a call is a value of a table.
+// A match and no closures, here and in `answer_to`: a call is a value of a table.
 pub fn perform(device: &mut Device<'_>, call: Call) -> Answer {
     match call {
         Call::Init(config, budget) => Answer::from(device.init(config, budget)),

@@ -22,7 +22,7 @@ pub fn receive<B: Backend>(uart: &mut Uart16550<B>, buffer: &mut [u8], places: u
 pub fn send<B: Backend>(uart: &mut Uart16550<B>, record: &[u8], rounds: usize) -> usize
     ensures { result ≤ rounds }
 {
-    // a chain with `filter` and `count` takes 1.15 times the Rust's instructions, this loop 1.10
+    // a chain takes 1.15 times the Rust's instructions; the bar is what this loop takes, 1.10 times
     let mut done = 0;
     for _round in 0..rounds {
         if uart.send_bytes_exact(record, 0).result.is_ok() {

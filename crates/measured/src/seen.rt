@@ -18,6 +18,7 @@ pub struct Seen {
 }
 
 /// The sum after one more write.
+// In the words of the harness, which mixes the same for the Rust's driver.
 pub fn mix(sum: u32, offset: u8, value: u8) -> u32
     ensures { result ≡ mixed sum offset value }
 {

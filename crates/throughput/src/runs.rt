@@ -21,6 +21,7 @@ const STEADY_TAPES: u8 = 25;
 const BURST_TAPES: u8 = 25;
 
 /// The modem lines of all chips.
+// The program `characters` has the same lines: each program is read alone.
 const LINES: ModemLines = ModemLines {
     clear_to_send: true,
     data_set_ready: true,
