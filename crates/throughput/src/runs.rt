@@ -87,42 +87,64 @@ fn exchange<B: Backend>(uart: &mut Uart16550<B>, bytes: &[u8]) -> (u64, Checksum
     (sent, received)
 }
 
-/// The message through a plug, and back.
-fn on_plug(heap: Global, bytes: &[u8]) -> anyhow::Result<Totals> {
-    let mut uart = started(Plug::new(LINES, vec![in heap; 0; LENGTH as usize]?))?;
-    let (sent, received) = exchange(&mut uart, bytes);
-    let plug = uart.backend();
-    Ok(Totals::of_one(sent, plug.carried(), received, plug.counts().lost))
+/// A simulated chip that tells what became of its characters.
+trait Told {
+    /// The bytes that left for the line.
+    fn left(&self) -> &[u8];
+
+    /// How many characters were lost.
+    fn lost(&self) -> u64;
 }
 
-/// A run on a bench with this tape, which answers how many bytes were taken and what was received.
-// A function of its own beside `on_plug`: with one trait for both chips the check stopped at an impl
-// of it for an instance of a generic chip.
-fn on_bench<R: FnOnce(&mut Uart16550<Bench>) -> (u64, Checksum)>(
-    heap: Global,
-    tape: Vec<TapeEntry>,
+impl Told for Plug {
+    fn left(&self) -> &[u8] {
+        self.carried()
+    }
+
+    fn lost(&self) -> u64 {
+        self.counts().lost
+    }
+}
+
+impl Told for Bench {
+    fn left(&self) -> &[u8] {
+        Bench::left(self)
+    }
+
+    fn lost(&self) -> u64 {
+        self.counts().lost
+    }
+}
+
+/// A run on one chip, which answers how many bytes were taken and what was received.
+fn on_chip<C: Backend + Told + Drop, R: FnOnce(&mut Uart16550<C>) -> (u64, Checksum)>(
+    chip: C,
     run: R,
 ) -> anyhow::Result<Totals>
     requires { R.IsAlwaysCallable run }
 {
-    let mut uart = started(bench(heap, tape)?)?;
+    let mut uart = started(chip)?;
     let (sent, received) = run(&mut uart);
     let chip = uart.backend();
-    Ok(Totals::of_one(sent, chip.left(), received, chip.counts().lost))
+    Ok(Totals::of_one(sent, chip.left(), received, chip.lost()))
+}
+
+/// The message through a plug, and back.
+fn on_plug(heap: Global, bytes: &[u8]) -> anyhow::Result<Totals> {
+    let plug = Plug::new(LINES, vec![in heap; 0; LENGTH as usize]?);
+    on_chip(plug, |uart| exchange(uart, bytes))
 }
 
 /// The message from a tape.
 fn from_tape(heap: Global, arrival: Arrival) -> anyhow::Result<Totals> {
-    on_bench(heap, tape(heap, arrival)?, |uart| (0, receive(uart)))
+    let chip = bench(heap, tape(heap, arrival)?)?;
+    on_chip(chip, |uart| (0, receive(uart)))
 }
 
 /// The message into a store.
 fn into_store(heap: Global, bytes: &[u8]) -> anyhow::Result<Totals> {
-    on_bench(
-        heap,
-        Vec::new(heap),
-        |uart| (send(uart, bytes), Checksum::default()),
-    )
+    let chip = bench(heap, Vec::new(heap))?;
+    on_chip(chip, |uart| (send(uart, bytes), Checksum::default()))
 }
 
 /// The message on every chip.
