@@ -1,10 +1,14 @@
 //! The divisors that give an integer rate at the usual clock.
 
-ghost use Rattle.std.specs.Prelude.{◌≡◌, ℕ};
+ghost use Rattle.std.specs.Prelude.{◌≡◌, ℕ, nat_eq};
 ghost use Rattle.registers.specs.Divisors.{divisor_value, DividesClock, Listed};
+ghost use Rattle.std.specs.Cmp.Rules.{comparing};
+ghost use Rattle.std.specs.Ordering.{on};
+ghost use Rattle.std.proofs.Common.{rules};
+ghost use Rattle.std.specs.Cmp as Keys;
 
 /// The divisors from 1 to 65,535 of 115,200, which is the usual clock over 16.
-#[derive(Clone, Copy, Debug, PartialEq, Eq)]
+#[derive(Clone, Copy, Debug)]
 pub enum Divisor {
     Divisor1 = 1,
     Divisor2 = 2,
@@ -116,4 +120,20 @@ impl Divisor {
     {
         u16::from(self)
     }
+}
+
+// By hand, since a caller is promised that the numbers are compared: a derived comparison speaks of
+// variants, and takes no clause.
+impl PartialEq for Divisor {
+    ghost eq = { on divisor_value nat_eq };
+
+    ghost laws = { Keys.partial_equiv_from_equiv (Prim.search (comparing, rules)) };
+
+    fn eq(&self, other: &Self) -> bool {
+        u16::from(*self) == u16::from(*other)
+    }
+}
+
+impl Eq for Divisor {
+    ghost laws = { Prim.search (comparing, rules) };
 }
