@@ -4,10 +4,10 @@ use Rattle.std.proofs.lemmas.List.{take_more_set, take_all, take-append-le, leng
 use Rattle.std.proofs.lemmas.Bool.{cases_lt, lt-ltb, le-ltb}
 use Rattle.std.proofs.lemmas.Bool.Decides.{nat_tests}
 use Rattle.backends.specs.declared.access.Access.{Access}
-use Rattle.backends.specs.declared.access_log.AccessLog.{AccessLog}
+use Rattle.backends.specs.declared.access_log.AccessTable.{AccessTable}
 use Rattle.backends.specs.Log.{noted, Holds}
 
-module _ (room : ℕ) (fits : room ≤ 18446744073709551615) (t : AccessLog room) (a : Access) (xs : List Access) (h : Holds room t xs) where
+module _ (room : ℕ) (fits : room ≤ 18446744073709551615) (t : AccessTable room) (a : Access) (xs : List Access) (h : Holds room t xs) where
   -- there is room: the access goes behind those that the table keeps
   below : length xs < room → Holds room (noted room t a) (xs ++ a ∷ [])
   below l =

@@ -1,4 +1,4 @@
-//! The table of a recorder.
+//! The tables of recorders.
 
 ghost use Rattle.std.specs.Prelude.{◌≡◌, ℕ, ◌<◌, min, [], take};
 ghost use Rattle.backends.specs.Log.{noted, Holds};
@@ -10,17 +10,20 @@ use crate::access::Access;
 // An array, since no access may fail for want of memory. The count goes on when it is full, and is
 // no length.
 #[derive(Drop)]
-pub struct AccessLog<const ROOM: usize> {
+pub struct AccessTable<const ROOM: usize> {
     entries: [Access; ROOM],
     count: u64,
 }
 
-impl<const ROOM: usize> AccessLog<ROOM> {
+/// The table of a recorder: it keeps the first 256 accesses.
+pub type AccessLog = AccessTable<256>;
+
+impl<const ROOM: usize> AccessTable<ROOM> {
     /// An empty table.
     pub fn new() -> Self
         ensures { Holds ROOM result [] }
     {
-        AccessLog {
+        AccessTable {
             entries: [Access::read(0, 0); ROOM],
             count: 0,
         }

@@ -52,7 +52,7 @@ impl<S> Adapter<MmioPlace, S> {
     pub fn base(&self) -> u64
         ensures { result ≡ self.now.place.base }
     {
-        self.place.base
+        self.place.address()
     }
 
     /// The distance between registers.

@@ -18,7 +18,7 @@ mod window;
 mod worked;
 
 pub use access::{Access, Kind};
-pub use access_log::AccessLog;
+pub use access_log::{AccessLog, AccessTable};
 pub use adapter::{Adapter, MmioBackend, PioBackend};
 pub use backend::Backend;
 pub use character::{Character, Counts};

@@ -6,7 +6,7 @@ ghost use Rattle.std.specs.Prelude.{◌≡◌, []};
 ghost use Rattle.std.proofs.Common.{rules};
 
 use crate::access::Access;
-use crate::access_log::AccessLog;
+use crate::access_log::AccessTable;
 use crate::backend::Backend;
 use crate::chip::Chip;
 
@@ -15,7 +15,7 @@ use crate::chip::Chip;
 #[derive(Drop)]
 pub struct Recording<B, const ROOM: usize> {
     inner: B,
-    log: AccessLog<ROOM>,
+    log: AccessTable<ROOM>,
 }
 
 /// A recorder that keeps the first 256 accesses.
@@ -29,14 +29,14 @@ impl<B: Backend, const ROOM: usize> Recording<B, ROOM> {
     {
         Recording {
             inner,
-            log: AccessLog::new(),
+            log: AccessTable::new(),
         }
     }
 }
 
 impl<B, const ROOM: usize> Recording<B, ROOM> {
     /// What was recorded.
-    pub fn log(&self) -> &AccessLog<ROOM>
+    pub fn log(&self) -> &AccessTable<ROOM>
         ensures { result.now ≡ self.now.log }
     {
         &self.log
