@@ -13,7 +13,7 @@ line_bits l =
 
 -- fixed lines, and no change
 abbrev pub still : ModemLines → Modem
-still l = record { fixed = l; changes = 0 }
+still l = record { fixed = line_bits l; changes = 0 }
 
 -- in loop mode the lines are the modem control's outputs
 abbrev pub outputs : ℕ → ModemLines
@@ -24,9 +24,9 @@ outputs mcr = record {
   carrier_detect = contains mcr 0x08;
 }
 
--- the lines with this modem control
-abbrev pub lines : Modem → ℕ → ModemLines
-lines m mcr = cond (contains mcr loop_back) (outputs mcr) m.fixed
+-- the lines with this modem control, in bits 4 to 7
+abbrev pub lines : Modem → ℕ → ℕ
+lines m mcr = cond (contains mcr loop_back) (line_bits (outputs mcr)) m.fixed
 
 -- a changed line sets its bit, the ring indicator only as it goes off
 abbrev pub line_changes : ℕ → ℕ → ℕ
@@ -34,11 +34,11 @@ line_changes old new = changed 4 old new + 2 * changed 5 old new + 4 * fell 6 ol
 
 -- the modem control is written
 abbrev pub latched : Modem → ℕ → ℕ → Modem
-latched m old new = record m { changes = bit_or m.changes (line_changes (line_bits (lines m old)) (line_bits (lines m new))) }
+latched m old new = record m { changes = bit_or m.changes (line_changes (lines m old) (lines m new)) }
 
 -- the modem status is read
 abbrev pub shown : Modem → ℕ → ℕ
-shown m mcr = bit_or (line_bits (lines m mcr)) m.changes
+shown m mcr = bit_or (lines m mcr) m.changes
 
 abbrev pub unchanged : Modem → Modem
 unchanged m = record m { changes = 0 }

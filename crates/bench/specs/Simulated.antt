@@ -17,16 +17,16 @@ module _ {J : Type 0} (G : Ghosts J) where
   simulated_device = record {
     reader = record {
       gives = λ s k. answer (G.ticked (state_of s)).core k;
-      next = λ s k. let t = G.ticked (state_of s) in record {
+      next = λ s k. let t = G.ticked (state_of s) in let o = G.sound (state_of s) s.ok in record {
         core = (read t k).core;
         joined = t.joined;
-        ok = answered_sound (length (G.came t.joined)) t.core k (G.sound (state_of s) s.ok);
+        ok = (answered_sound (length (G.came t.joined)) t.core k o.0, o.1);
       };
     };
-    write = λ s k v. let t = G.ticked (state_of s) in record {
+    write = λ s k v. let t = G.ticked (state_of s) in let o = G.sound (state_of s) s.ok in record {
       core = (write t k v).core;
       joined = t.joined;
-      ok = written_sound (length (G.came t.joined)) t.core k v (G.sound (state_of s) s.ok);
+      ok = (written_sound (length (G.came t.joined)) t.core k v o.0, o.1);
     };
   }
 

@@ -1,5 +1,5 @@
--- What stays true of a chip: no more than 65,535 characters come, no more marks are counted than characters came with
--- one, and no more characters wait than there is room for.
+-- What stays true of a chip: no more marks are counted than characters came with one, and no more characters wait than
+-- there is room for.
 use Rattle.std.specs.Prelude.{ℕ, ◌+◌, ◌≤◌, Bool, cond, List, [], ◌∷◌, length}
 use Rattle.backends.specs.declared.character.Character.{Character}
 use Rattle.backends.specs.declared.character.Counts.{Counts}
@@ -33,4 +33,4 @@ Bounded s = length s.receiver.queue ≤ capacity (mode s.settings.fifos)
 
 -- m characters came from the line
 abbrev pub Sound : ℕ → Core → Type 0
-Sound m s = Counted s.receiver.counts s.receiver.queue m × Bounded s × (m ≤ 65535)
+Sound m s = Counted s.receiver.counts s.receiver.queue m × Bounded s

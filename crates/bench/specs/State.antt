@@ -1,5 +1,5 @@
 -- A chip and what is joined to it.
-use Rattle.std.specs.Prelude.{ℕ, List, length}
+use Rattle.std.specs.Prelude.{ℕ, ◌≤◌, List, length}
 use Rattle.backends.specs.declared.character.Character.{Character}
 use Rattle.backends.specs.Chip.{ChipState}
 use Rattle.bench.specs.declared.chip_core.Core.{Core}
@@ -14,9 +14,9 @@ pub record State (J : Type 0) : Type 0 where
 abbrev pub state : {J : Type 0} → Core → J → State J
 state s j = record { core = s; joined = j }
 
--- the chip is sound, by the characters that have come
+-- the chip is sound, by the characters that have come, and no more than 65,535 have
 abbrev pub IsSound : {J : Type 0} → (J → List Character) → State J → Type 0
-IsSound came s = Sound (length (came s.joined)) s.core
+IsSound came s = Sound (length (came s.joined)) s.core × (length (came s.joined) ≤ 65535)
 
 -- what it means, by the characters that have come and the bytes that have left
 abbrev pub meaning_of : {J : Type 0} → (J → List Character) → (J → List ℕ) → State J → ChipState

@@ -51,7 +51,7 @@ impl Joined for Cable {
     fn tick(&mut self, core: &mut Core) {
         if core.settings.looping() {
             core.turn();
-        } else if self.due(core) {
+        } else if core.transmitter.held.len() > 0 && self.due(core) {
             self.carry(core);
         }
     }

@@ -45,10 +45,11 @@ impl ModemLines {
     }
 }
 
-/// The lines outside loop mode, and the change bits that no read has cleared.
+/// The lines outside loop mode in bits 4 to 7, and the change bits that no read has cleared.
+// A byte, made once: a read of the modem status would make it each time.
 #[derive(Clone, Copy)]
 pub struct Modem {
-    pub fixed: ModemLines,
+    pub fixed: u8,
     pub changes: u8,
 }
 
@@ -58,17 +59,17 @@ impl Modem {
         ensures { result ≡ still lines }
     {
         Modem {
-            fixed: lines,
+            fixed: lines.bits(),
             changes: 0,
         }
     }
 
-    /// The lines with this modem control: in loop mode its outputs.
-    fn lines(&self, mcr: u8) -> ModemLines
+    /// The lines with this modem control in bits 4 to 7: in loop mode its outputs.
+    fn lines(&self, mcr: u8) -> u8
         ensures { result ≡ shown_lines self.now mcr }
     {
         if contains(mcr, LOOP_BACK) {
-            ModemLines::outputs(mcr)
+            ModemLines::outputs(mcr).bits()
         } else {
             self.fixed
         }
@@ -78,8 +79,8 @@ impl Modem {
     pub fn latch(&mut self, old: u8, new: u8)
         ensures { self.new ≡ latched self.old old new }
     {
-        let before = self.lines(old).bits();
-        let after = self.lines(new).bits();
+        let before = self.lines(old);
+        let after = self.lines(new);
         self.changes |= modem_line_changes(before, after);
     }
 
@@ -88,7 +89,7 @@ impl Modem {
         ensures value { result ≡ shown self.old mcr }
         ensures state { self.new ≡ unchanged self.old }
     {
-        let shown = self.lines(mcr).bits() | self.changes;
+        let shown = self.lines(mcr) | self.changes;
         self.changes = 0;
         shown
     }

@@ -53,7 +53,8 @@ impl TapeAndLine {
     fn leave(&mut self, core: &mut Core)
         ensures { state core.new self.new ≡ leaving (state core.old self.old) }
     {
-        if self.line.has_room() {
+        // the queue is asked first: on most accesses it is empty
+        if core.transmitter.held.len() > 0 && self.line.has_room() {
             if let Some(byte) = core.transmitter.held.pop() {
                 self.line.put(byte);
             }
@@ -72,6 +73,7 @@ impl TapeAndLine {
 
     /// Outside loop mode the oldest held byte leaves on a beat, and the access counts for the gaps.
     fn pass(&mut self, core: &mut Core)
+        requires { IsSound came (state core.old self.old) }
         ensures { state core.new self.new ≡ aged (beaten (state core.old self.old)) }
     {
         if self.pace.beat() {

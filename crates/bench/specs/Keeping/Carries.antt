@@ -1,5 +1,5 @@
 -- With a cable: what moves before an access keeps the chip sound, and moves as the rules say.
-use Rattle.std.specs.Prelude.{◌≡◌, ℕ, ◌+◌, true, cond, List, [], ◌∷◌, ◌++◌, length, map, min, refl}
+use Rattle.std.specs.Prelude.{◌≡◌, ℕ, ◌+◌, ◌≤◌, true, cond, List, [], ◌∷◌, ◌++◌, length, map, min, refl}
 use Rattle.std.proofs.Common.{arith, sym, ap, ◌∙◌, subst}
 use Rattle.std.proofs.lemmas.List.{length-map, length_push, map_push}
 use Rattle.std.proofs.lemmas.Bool.{and_parts, ltb-true, cond_both}
@@ -21,19 +21,19 @@ use Rattle.bench.specs.Keeping.Sends.{one_gone_is, none_less}
 
 -- It keeps the chip sound
 
-carried_sound : (bs : List ℕ) (p : State Cable) → carrying p ≡ true → IsSound came p → IsSound came (carried bs p)
+pub carried_sound : (bs : List ℕ) (p : State Cable) → carrying p ≡ true → IsSound came p → IsSound came (carried bs p)
 carried_sound [] p r h = h
 carried_sound (b ∷ bs) p r h =
     let l = p.joined.line in
     let o = ltb-true (length l.gone) (min l.space 65535) (and_parts (room l) (accepting p.core) r).0 in
     let n : length (map unmarked (l.gone ++ b ∷ [])) ≡ length (map unmarked l.gone) + 1 = omega (arith, length-map (l.gone ++ b ∷ []) unmarked, length-map l.gone unmarked, length_push l.gone b) in
-    subst (λ m. Sound m (carried (b ∷ bs) p).core) (sym n)
-    (arrived_sound (unmarked b) (length (map unmarked l.gone)) p.core (omega (arith, length-map l.gone unmarked)) h)
+    subst (λ m. Sound m (carried (b ∷ bs) p).core × (m ≤ 65535)) (sym n)
+    (arrived_sound (unmarked b) (length (map unmarked l.gone)) p.core h.0, omega (arith, length-map l.gone unmarked))
 
 pub ticked_sound : (p : State Cable) → IsSound came p → IsSound came (ticked p)
 ticked_sound p h =
     cond_both (loops p.core.settings) (state (turned p.core) p.joined) _ (IsSound came)
-    (λ _. turned_sound (length (came p.joined)) p.core h)
+    (λ _. (turned_sound (length (came p.joined)) p.core h.0, h.1))
     (λ _. cond_both (carrying p) (carried p.core.transmitter.held p) p (IsSound came) (λ e. carried_sound p.core.transmitter.held p e h) (λ _. h))
 
 -- It moves as the rules say

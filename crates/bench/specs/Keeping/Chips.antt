@@ -16,5 +16,5 @@ simulated_keeps G moves = record {
   writing = λ s k v l.
       let t = G.ticked (state_of G s) in
       record { mid = meaning_of G.came G.gone t; before = moves (state_of G s); acts = writes_act (G.came t.joined) (G.gone t.joined) t.core k v };
-  single = λ s e. single_waits s.core s.ok.1 e;
+  single = λ s e. single_waits s.core s.ok.0.1 e;
 }

@@ -65,15 +65,15 @@ module _ (f : Character → Bool) where
   next_within n m x y cs h = omega (arith, one_more_is (f y) n)
 
 -- m characters came, and with c from the line there are m'
-abbrev Grows : Character → ℕ → ℕ → Type 0
+abbrev pub Grows : Character → ℕ → ℕ → Type 0
 Grows c m m' = (m + one c.parity ≤ m') × (m + one c.framing ≤ m') × (m + one c.broken ≤ m')
 
 -- one from the line
-grows_one : (c : Character) (m : ℕ) → Grows c m (m + 1)
+pub grows_one : (c : Character) (m : ℕ) → Grows c m (m + 1)
 grows_one c m = (omega (arith, one_most c.parity), omega (arith, one_most c.framing), omega (arith, one_most c.broken))
 
 -- one that came round bears no mark
-grows_none : (b m : ℕ) → Grows (unmarked b) m m
+pub grows_none : (b m : ℕ) → Grows (unmarked b) m m
 grows_none b m = (omega arith, omega arith, omega arith)
 
 module _ (c : Character) (m m' : ℕ) (g : Grows c m m') where
@@ -117,7 +117,7 @@ taken_counted m (x ∷ y ∷ cs) n h = (
 )
 
 -- a newcomer joins where there is room, is dropped, or stands alone
-reached_bounded : (c : Character) (f : Mode) (r : Receiver) → length r.queue ≤ capacity f → length (reached f c r).queue ≤ capacity f
+pub reached_bounded : (c : Character) (f : Mode) (r : Receiver) → length r.queue ≤ capacity f → length (reached f c r).queue ≤ capacity f
 reached_bounded c f r h =
     let P : Receiver → Type 0 = λ q. length q.queue ≤ capacity f in
     cond_both (nat_lt (length r.queue) (capacity f)) _ _ P
@@ -127,31 +127,29 @@ reached_bounded c f r h =
 -- The chip itself
 
 -- the counts of a sound chip can grow
-pub sound_room : (m : ℕ) (s : Core) → Sound m s → Room s.receiver.counts
-sound_room m s h = (omega arith, omega arith, omega arith)
+pub sound_room : (m : ℕ) (s : Core) → m ≤ 65535 → Sound m s → Room s.receiver.counts
+sound_room m s l h = (omega arith, omega arith, omega arith)
 
 come_round_sound : (m : ℕ) (bs : List ℕ) (s : Core) → Sound m s → Sound m (come_round bs s)
 come_round_sound m [] s h = h
 come_round_sound m (b ∷ bs) s h = (
   reached_counted (unmarked b) m m (grows_none b m) (mode s.settings.fifos) s.receiver h.0,
   reached_bounded (unmarked b) (mode s.settings.fifos) s.receiver h.1,
-  h.2,
 )
 
 -- a character arrives from the line
-pub arrived_sound : (c : Character) (m : ℕ) (s : Core) → m < 65535 → Sound m s → Sound (m + 1) (with_receiver s (reaching s c))
-arrived_sound c m s l h = (
+pub arrived_sound : (c : Character) (m : ℕ) (s : Core) → Sound m s → Sound (m + 1) (with_receiver s (reaching s c))
+arrived_sound c m s h = (
   reached_counted c m (m + 1) (grows_one c m) (mode s.settings.fifos) s.receiver h.0,
   reached_bounded c (mode s.settings.fifos) s.receiver h.1,
-  omega arith,
 )
 
 pub turned_sound : (m : ℕ) (s : Core) → Sound m s → Sound m (turned s)
 turned_sound m s h = cond_both (accepting s) _ s (λ t. Sound m t) (λ _. come_round_sound m s.transmitter.turning s h) (λ _. h)
 
 -- a read takes one character at most
-taken_sound : (m : ℕ) (s : Core) → Sound m s → Sound m (with_receiver s (taken s.receiver))
-taken_sound m s h = (taken_counted m s.receiver.queue s.receiver.counts h.0, omega (arith, length-drop 1 s.receiver.queue), h.2)
+pub taken_sound : (m : ℕ) (s : Core) → Sound m s → Sound m (with_receiver s (taken s.receiver))
+taken_sound m s h = (taken_counted m s.receiver.queue s.receiver.counts h.0, omega (arith, length-drop 1 s.receiver.queue))
 
 pub answered_sound : (m : ℕ) (s : Core) (k : ℕ) → Sound m s → Sound m (answered s k)
 answered_sound m s k h =
@@ -160,12 +158,12 @@ answered_sound m s k h =
     h h h h h h h
 
 switched_sound : (m : ℕ) (f : Fifos) (s : Core) → Sound m s → Sound m (switched f s)
-switched_sound m f s h = (none_counted s.receiver.counts m s.receiver.queue h.0, omega arith, h.2)
+switched_sound m f s h = (none_counted s.receiver.counts m s.receiver.queue h.0, omega arith)
 
 reset_sound : (m v : ℕ) (s : Core) → Sound m s → Sound m (reset v s)
 reset_sound m v s h =
     cond_both (contains v rx_fifo_reset) (emptied s.receiver) s.receiver
-    (λ r. Sound m (with_receiver s r)) (λ _. (none_counted s.receiver.counts m s.receiver.queue h.0, omega arith, h.2)) (λ _. h)
+    (λ r. Sound m (with_receiver s r)) (λ _. (none_counted s.receiver.counts m s.receiver.queue h.0, omega arith)) (λ _. h)
 
 controlled_sound : (m : ℕ) (f : Fifos) (v : ℕ) (s : Core) → Sound m s → Sound m (controlled f v s)
 controlled_sound m Absent v s h = h

@@ -32,8 +32,8 @@ arrives_sound (e ∷ es) p r h =
     let f = λ (e : TapeEntry). e.character in
     let o = ltb-true (length t.came) 65535 (and_parts _ (due t.since t.coming) (and_parts (accepting p.core) (over t) r).1).0 in
     let n : length (map f (t.came ++ e ∷ [])) ≡ length (map f t.came) + 1 = omega (arith, length-map (t.came ++ e ∷ []) f, length-map t.came f, length_push t.came e) in
-    subst (λ m. Sound m (arrives (e ∷ es) p).core) (sym n)
-    (arrived_sound e.character (length (map f t.came)) p.core (omega (arith, length-map t.came f)) h)
+    subst (λ m. Sound m (arrives (e ∷ es) p).core × (m ≤ 65535)) (sym n)
+    (arrived_sound e.character (length (map f t.came)) p.core h.0, omega (arith, length-map t.came f))
 
 fills_sound : (es : List TapeEntry) (p : State TapeAndLine) → IsSound came p → IsSound came (fills es p)
 unfolding fills
@@ -57,8 +57,8 @@ pub ticked_sound : (p : State TapeAndLine) → IsSound came p → IsSound came (
 ticked_sound p h =
     let q = aged (beaten p) in
     cond_both (loops p.core.settings) (passed_looping p) (filled q) (IsSound came)
-    (λ _. cond_both (beats p.joined.pace) (turned p.core) p.core (λ s. Sound (length (came p.joined)) s)
-    (λ _. turned_sound (length (came p.joined)) p.core h) (λ _. h))
+    (λ _. cond_both (beats p.joined.pace) (turned p.core) p.core (λ s. IsSound came (state s p.joined))
+    (λ _. (turned_sound (length (came p.joined)) p.core h.0, h.1)) (λ _. h))
     (λ _. fills_sound q.joined.tape.coming q (beaten_sound p h))
 
 -- Loop mode

@@ -4,16 +4,20 @@ ghost use Rattle.std.specs.Prelude.{◌≡◌, ℕ, ◌-◌, map, vec_len};
 ghost use Rattle.bench.specs.Line.{empty_line};
 ghost use Rattle.bench.specs.Making.{Made};
 ghost use Rattle.bench.specs.Meaning.{left};
+ghost use Rattle.bench.specs.Simulated.{simulated_device, simulated_meaning};
 ghost use Rattle.bench.specs.Tape.{unplayed};
+ghost use Rattle.bench.specs.Keeping.Chips.{simulated_keeps};
+ghost use Rattle.bench.specs.Keeping.Moves.{ticked_moves};
 
 use crate::chip_core::Core;
+use crate::joined::Joined;
 use crate::line::Line;
 use crate::modem::ModemLines;
 use crate::pace::Pace;
 use crate::simulated::Simulated;
 use crate::tape::{Tape, TapeEntry};
 use crate::tape_and_line::TapeAndLine;
-use backends::Chip;
+use backends::{Backend, Chip};
 
 /// A 16550 that receives what stands on a tape, and sends into a store.
 pub type Bench = Simulated<TapeAndLine>;
@@ -66,4 +70,22 @@ impl Bench {
     {
         self.joined.line.bytes()
     }
+}
+
+impl Backend for Bench {
+    ghost device = { simulated_device ⟦<TapeAndLine as Joined>⟧ };
+
+    fn read(&mut self, offset: u8) -> u8 {
+        self.read_register(offset)
+    }
+
+    fn write(&mut self, offset: u8, value: u8) {
+        self.write_register(offset, value);
+    }
+}
+
+impl Chip for Bench {
+    ghost meaning = { simulated_meaning ⟦<TapeAndLine as Joined>⟧ };
+
+    ghost keeps = { simulated_keeps ⟦<TapeAndLine as Joined>⟧ ticked_moves };
 }

@@ -1,16 +1,20 @@
-//! A simulated chip is a backend, and a chip.
+//! What an access to a simulated chip does, whatever is joined to it.
 
-ghost use Rattle.bench.specs.Simulated.{simulated_device, simulated_meaning};
-ghost use Rattle.bench.specs.Keeping.Chips.{simulated_keeps};
+ghost use Rattle.std.specs.Prelude.{◌≡◌};
+ghost use Rattle.backends.specs.Device.{reads, moves, writes};
+ghost use Rattle.bench.specs.Simulated.{simulated_device};
 
 use crate::joined::Joined;
 use crate::simulated::Simulated;
-use backends::{Backend, Chip};
 
-impl<J: Joined> Backend for Simulated<J> {
-    ghost device = { simulated_device J.Joined };
-
-    fn read(&mut self, offset: u8) -> u8 {
+// The two chips are backends by these two. `Backend` itself stands at each of the two types: with this
+// toolchain no trait that builds on it could be implemented for them if it stood here once for all.
+impl<J: Joined> Simulated<J> {
+    /// A register is read.
+    pub(crate) fn read_register(&mut self, offset: u8) -> u8
+        ensures value { result ≡ reads (simulated_device J.Joined) self.old offset }
+        ensures state { self.new ≡ moves (simulated_device J.Joined) self.old offset }
+    {
         if offset >= 8 {
             return 0xFF;
         }
@@ -18,16 +22,13 @@ impl<J: Joined> Backend for Simulated<J> {
         self.core.read(offset)
     }
 
-    fn write(&mut self, offset: u8, value: u8) {
+    /// A register is written.
+    pub(crate) fn write_register(&mut self, offset: u8, value: u8)
+        ensures state { self.new ≡ writes (simulated_device J.Joined) self.old offset value }
+    {
         if offset < 8 {
             self.joined.tick(&mut self.core);
             self.core.write(offset, value);
         }
     }
-}
-
-impl<J: Joined> Chip for Simulated<J> {
-    ghost meaning = { simulated_meaning J.Joined };
-
-    ghost keeps = { simulated_keeps J.Joined.own J.moves };
 }

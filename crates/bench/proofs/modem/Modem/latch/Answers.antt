@@ -1,7 +1,7 @@
 use Rattle.std.proofs.Common.{◌≡◌, ℕ, ◌+◌, ◌*◌, ◌/◌, ◌%◌, ◌<◌, ap, ap₂, ◌∙◌, arith}
 use lib.Bits.{bit_or}
 use Rattle.registers.specs.Modem.{LineChanges}
-use Rattle.bench.specs.Modem.{line_bits, line_changes}
+use Rattle.bench.specs.Modem.{line_changes}
 use Rattle.bench.proofs.modem.Modem.latch.Goals as goal
 
 four_bits : (r : ℕ) → r < 16 → r ≡ r % 2 + 2 * (r / 2 % 2) + 4 * (r / 4 % 2) + 8 * (r / 8 % 2)
@@ -21,6 +21,4 @@ changes_are old new r h = let e = four_bits r h.others in omega arith
 pub returns : goal.returns
 returns c =
     let m = c.args.self.now in
-    let before = c.bits-before.ensures ∙ ap line_bits c.lines.ensures in
-    let after = c.bits-after.ensures ∙ ap line_bits c.lines-2.ensures in
-    ap (λ n. record m { changes = bit_or m.changes n }) (changes_are _ _ _ c.modem_line_changes.ensures ∙ ap₂ line_changes before after)
+    ap (λ n. record m { changes = bit_or m.changes n }) (changes_are _ _ _ c.modem_line_changes.ensures ∙ ap₂ line_changes c.lines-before.ensures c.lines-after.ensures)

@@ -3,7 +3,7 @@ use Rattle.std.proofs.lemmas.Bool.{lt-ltb}
 use Rattle.bench.specs.Simulated.{simulated_device}
 use Rattle.bench.specs.State.{state, IsSound, write}
 use Rattle.bench.proofs.Equal.{same_simulated}
-use Rattle.bench.proofs.simulated.device.SimulatedBackend.write.Goals as goal
+use Rattle.bench.proofs.simulated.Simulated.write_register.Goals as goal
 
 pub invariant_of-self : goal.invariant_of-self
 invariant_of-self g c =
