@@ -46,7 +46,7 @@ impl ModemLines {
 }
 
 /// The lines outside loop mode in bits 4 to 7, and the change bits that no read has cleared.
-// A byte, made once: a read of the modem status would make it each time.
+// A byte, made once: otherwise each read of the modem status would make it.
 #[derive(Clone, Copy)]
 pub struct Modem {
     pub fixed: u8,

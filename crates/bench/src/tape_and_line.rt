@@ -53,7 +53,7 @@ impl TapeAndLine {
     fn leave(&mut self, core: &mut Core)
         ensures { state core.new self.new ≡ leaving (state core.old self.old) }
     {
-        // the queue is asked first: on most accesses it is empty
+        // the queue is asked first: where nothing is held, the line need not be
         if core.transmitter.held.len() > 0 && self.line.has_room() {
             if let Some(byte) = core.transmitter.held.pop() {
                 self.line.put(byte);

@@ -8,7 +8,7 @@ use crate::joined::Joined;
 use crate::simulated::Simulated;
 
 // The two chips are backends by these two. `Backend` itself stands at each of the two types: with this
-// toolchain no trait that builds on it could be implemented for them if it stood here once for all.
+// toolchain no trait that builds on it could be implemented for them if it stood here once for both.
 impl<J: Joined> Simulated<J> {
     /// A register is read.
     pub(crate) fn read_register(&mut self, offset: u8) -> u8
